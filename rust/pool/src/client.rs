@@ -20,7 +20,7 @@ use std::sync::Arc;
 /// [`Pool::client`](crate::Pool::client).
 ///
 /// ```
-/// # let pool = cubejobs_pool::Pool::builder().build()?;
+/// # let pool = cubejobs_pool::Pool::builder().workers_log2(2).build()?;
 /// let mut client = pool.client().unwrap();
 /// let producer = std::thread::spawn(move || client.spawn(|| 7).unwrap().join().unwrap());
 /// assert_eq!(producer.join().unwrap(), 7);
@@ -111,7 +111,7 @@ impl Client {
     /// Those of [`Client::spawn`].
     ///
     /// ```
-    /// # let pool = cubejobs_pool::Pool::builder().build()?;
+    /// # let pool = cubejobs_pool::Pool::builder().workers_log2(2).build()?;
     /// let mut client = pool.client().unwrap();
     /// let (sender, receiver) = std::sync::mpsc::channel();
     /// client.detach(move || sender.send(7).unwrap()).unwrap();
@@ -132,7 +132,7 @@ impl Client {
     /// the pool. The closure comes back.
     ///
     /// ```
-    /// # let pool = cubejobs_pool::Pool::builder().build()?;
+    /// # let pool = cubejobs_pool::Pool::builder().workers_log2(2).build()?;
     /// let mut client = pool.client().unwrap();
     /// let producer = std::thread::spawn(move || {
     ///     let gang = client.submit(1, |group| group.exchange(1 - group.rank(), group.rank()));
@@ -159,7 +159,7 @@ impl Client {
     /// ```
     /// use cubejobs_pool::{Pool, Reason};
     ///
-    /// let pool = Pool::builder().build()?;
+    /// let pool = Pool::builder().workers_log2(2).build()?;
     /// let mut client = pool.client().unwrap();
     /// let gang = client.try_submit(2, |group| group.rank()).unwrap();
     /// assert_eq!(gang.join_all().unwrap(), [0, 1, 2, 3]);

@@ -87,7 +87,7 @@ pub struct Builder {
 /// If it is dropped, it is closed: see [`Pool::close`].
 ///
 /// ```
-/// let pool = cubejobs_pool::Pool::builder().build()?;
+/// let pool = cubejobs_pool::Pool::builder().workers_log2(2).build()?;
 /// let gang = pool.submit(1, |group| group.all_reduce(group.rank(), |a, b| a + b)).unwrap();
 /// assert_eq!((pool.spawn(|| 7).join().unwrap(), gang.join().unwrap()), (7, 1));
 /// # Ok::<(), std::io::Error>(())
@@ -156,7 +156,7 @@ impl Builder {
     /// processor for each worker, it looks up to 20 microseconds while that pays.
     ///
     /// ```
-    /// let pool = cubejobs_pool::Pool::builder().looks(300).build()?;
+    /// let pool = cubejobs_pool::Pool::builder().workers_log2(1).looks(300).build()?;
     /// let ranks = pool.run(1, |group| group.exchange(1 - group.rank(), group.rank()));
     /// assert_eq!(ranks, [1, 0]);
     /// # Ok::<(), std::io::Error>(())
@@ -476,7 +476,7 @@ impl Pool {
     /// until there is room. A worker never waits here: its job goes to a queue without a limit.
     ///
     /// ```
-    /// # let pool = cubejobs_pool::Pool::builder().build()?;
+    /// # let pool = cubejobs_pool::Pool::builder().workers_log2(2).build()?;
     /// let ticket = pool.spawn(|| 3 + 4);
     /// assert_eq!(ticket.join().unwrap(), 7);
     /// # Ok::<(), std::io::Error>(())
@@ -486,7 +486,7 @@ impl Pool {
     /// borrow.
     ///
     /// ```compile_fail,E0373
-    /// # let pool = cubejobs_pool::Pool::builder().build().unwrap();
+    /// # let pool = cubejobs_pool::Pool::builder().workers_log2(2).build().unwrap();
     /// let number = 5;
     /// pool.spawn(|| number + 1);
     /// ```
@@ -509,7 +509,7 @@ impl Pool {
     /// The reason is `Full`. The closure comes back.
     ///
     /// ```
-    /// # let pool = cubejobs_pool::Pool::builder().build()?;
+    /// # let pool = cubejobs_pool::Pool::builder().workers_log2(2).build()?;
     /// let ticket = pool.try_spawn(|| 3 + 4).unwrap();
     /// assert_eq!(ticket.join().unwrap(), 7);
     /// # Ok::<(), std::io::Error>(())
@@ -531,7 +531,7 @@ impl Pool {
     /// alone.
     ///
     /// ```
-    /// # let pool = cubejobs_pool::Pool::builder().build()?;
+    /// # let pool = cubejobs_pool::Pool::builder().workers_log2(2).build()?;
     /// let (sender, receiver) = std::sync::mpsc::channel();
     /// pool.detach(move || sender.send(7).unwrap());
     /// assert_eq!(receiver.recv(), Ok(7));
@@ -553,7 +553,7 @@ impl Pool {
     /// The reason is `TooWide`, or `Full` at a worker of any pool. The closure comes back.
     ///
     /// ```
-    /// # let pool = cubejobs_pool::Pool::builder().build()?;
+    /// # let pool = cubejobs_pool::Pool::builder().workers_log2(2).build()?;
     /// let gang = pool.submit(2, |group| group.all_reduce(group.rank(), |a, b| a + b)).unwrap();
     /// assert_eq!(gang.join_all().unwrap(), [6, 6, 6, 6]);
     /// # Ok::<(), std::io::Error>(())
@@ -573,7 +573,7 @@ impl Pool {
     /// The reason is the first of these that applies: `TooWide`, `Full`. The closure comes back.
     ///
     /// ```
-    /// # let pool = cubejobs_pool::Pool::builder().build()?;
+    /// # let pool = cubejobs_pool::Pool::builder().workers_log2(2).build()?;
     /// let gang = pool.try_submit(1, |group| group.rank()).unwrap();
     /// assert_eq!(gang.join_all().unwrap(), [0, 1]);
     /// # Ok::<(), std::io::Error>(())
@@ -603,7 +603,7 @@ impl Pool {
     /// that panic goes on here.
     ///
     /// ```
-    /// # let pool = cubejobs_pool::Pool::builder().build()?;
+    /// # let pool = cubejobs_pool::Pool::builder().workers_log2(2).build()?;
     /// let words = ["a", "b"];
     /// assert_eq!(pool.run(1, |group| words[group.rank()]), ["a", "b"]);
     /// # Ok::<(), std::io::Error>(())
@@ -612,14 +612,14 @@ impl Pool {
     /// The view of a group stays with its worker:
     ///
     /// ```compile_fail,E0277
-    /// # let pool = cubejobs_pool::Pool::builder().build().unwrap();
+    /// # let pool = cubejobs_pool::Pool::builder().workers_log2(2).build().unwrap();
     /// pool.run(1, |group| std::thread::scope(|threads| { threads.spawn(|| group.barrier()); }));
     /// ```
     ///
     /// What members exchange borrows nothing:
     ///
     /// ```compile_fail,E0597
-    /// # let pool = cubejobs_pool::Pool::builder().build().unwrap();
+    /// # let pool = cubejobs_pool::Pool::builder().workers_log2(2).build().unwrap();
     /// pool.run(1, |group| {
     ///     let here = group.rank();
     ///     let there: &usize = group.exchange(group.rank() ^ 1, &here);
@@ -630,7 +630,7 @@ impl Pool {
     /// It can be sent to another thread:
     ///
     /// ```compile_fail,E0277
-    /// # let pool = cubejobs_pool::Pool::builder().build().unwrap();
+    /// # let pool = cubejobs_pool::Pool::builder().workers_log2(2).build().unwrap();
     /// pool.run(1, |group| { group.exchange(group.rank() ^ 1, std::rc::Rc::new(1)); });
     /// ```
     pub fn run<F, T>(&self, dim: u32, call: F) -> Vec<T>
@@ -655,7 +655,7 @@ impl Pool {
     /// ticket was not joined, that panic goes on here when all jobs have ended.
     ///
     /// ```
-    /// # let pool = cubejobs_pool::Pool::builder().build()?;
+    /// # let pool = cubejobs_pool::Pool::builder().workers_log2(2).build()?;
     /// let mut squares = [1, 2, 3, 4];
     /// pool.scope(|scope| {
     ///     for number in &mut squares {
@@ -695,7 +695,7 @@ impl Pool {
     /// own.
     ///
     /// ```
-    /// # let pool = cubejobs_pool::Pool::builder().build()?;
+    /// # let pool = cubejobs_pool::Pool::builder().workers_log2(2).build()?;
     /// let ticket = pool.spawn(|| 7);
     /// pool.close();
     /// assert!(ticket.is_finished());
@@ -712,7 +712,7 @@ impl Pool {
     /// begins when it has its workers, even if some of them are late.
     ///
     /// ```
-    /// # let pool = cubejobs_pool::Pool::builder().build()?;
+    /// # let pool = cubejobs_pool::Pool::builder().workers_log2(2).build()?;
     /// use cubejobs_pool::Cancelled;
     ///
     /// let tickets: Vec<_> = (0..100).map(|number| pool.spawn(move || number)).collect();

@@ -248,7 +248,7 @@ impl<F: FnOnce() + Send> Work for Scoped<F> {
 /// [`Pool::scope`](crate::Pool::scope).
 ///
 /// ```
-/// # let pool = cubejobs_pool::Pool::builder().build()?;
+/// # let pool = cubejobs_pool::Pool::builder().workers_log2(2).build()?;
 /// use std::sync::atomic::{AtomicUsize, Ordering::SeqCst};
 ///
 /// let leaves = AtomicUsize::new(0);
@@ -274,7 +274,7 @@ pub struct Scope<'scope, 'env: 'scope> {
 /// that of the scope. See [`Scope::spawn`].
 ///
 /// ```
-/// # let pool = cubejobs_pool::Pool::builder().build()?;
+/// # let pool = cubejobs_pool::Pool::builder().workers_log2(2).build()?;
 /// let word = String::from("abc");
 /// let length = pool.scope(|scope| scope.spawn(|| word.len()).join().unwrap());
 /// assert_eq!(length, 3);
@@ -310,7 +310,7 @@ impl<'scope> Scope<'scope, '_> {
     /// until there is room. A worker never waits here. The panic of `call` is that of the scope.
     ///
     /// ```
-    /// # let pool = cubejobs_pool::Pool::builder().build()?;
+    /// # let pool = cubejobs_pool::Pool::builder().workers_log2(2).build()?;
     /// let mut squares = [1, 2, 3, 4];
     /// pool.scope(|scope| {
     ///     for number in &mut squares {
@@ -344,7 +344,7 @@ impl<'scope> Scope<'scope, '_> {
     /// Runs `call` on one worker, as [`Scope::detach`] does, and returns the way to its result.
     ///
     /// ```
-    /// # let pool = cubejobs_pool::Pool::builder().build()?;
+    /// # let pool = cubejobs_pool::Pool::builder().workers_log2(2).build()?;
     /// let words = ["a", "bc"];
     /// let lengths = pool.scope(|scope| {
     ///     let tickets = words.map(|word| scope.spawn(|| word.len()));
@@ -377,7 +377,7 @@ impl<'scope> Scope<'scope, '_> {
     /// [`Pool::submit`](crate::Pool::submit) does. Returns the way to its results.
     ///
     /// ```
-    /// # let pool = cubejobs_pool::Pool::builder().build()?;
+    /// # let pool = cubejobs_pool::Pool::builder().workers_log2(2).build()?;
     /// let words = ["a", "bc"];
     /// let lengths = pool.scope(|scope| {
     ///     let gang = scope.submit(1, |group| words[group.rank()].len()).unwrap();
@@ -446,7 +446,7 @@ impl<T> ScopeTicket<'_, T> {
     /// Returns whether the job has ended.
     ///
     /// ```
-    /// # let pool = cubejobs_pool::Pool::builder().build()?;
+    /// # let pool = cubejobs_pool::Pool::builder().workers_log2(2).build()?;
     /// pool.scope(|scope| {
     ///     let ticket = scope.spawn(|| 7);
     ///     while !ticket.is_finished() {
@@ -463,7 +463,7 @@ impl<T> ScopeTicket<'_, T> {
     /// that of the scope.
     ///
     /// ```
-    /// # let pool = cubejobs_pool::Pool::builder().build()?;
+    /// # let pool = cubejobs_pool::Pool::builder().workers_log2(2).build()?;
     /// let both = pool.scope(|scope| {
     ///     let panics = scope.spawn(|| -> u8 { std::panic::resume_unwind(Box::new("no")) });
     ///     let seven = scope.spawn(|| 7);
@@ -480,7 +480,7 @@ impl<T> ScopeTicket<'_, T> {
     /// not that of the scope.
     ///
     /// ```
-    /// # let pool = cubejobs_pool::Pool::builder().build()?;
+    /// # let pool = cubejobs_pool::Pool::builder().workers_log2(2).build()?;
     /// let words = ["a", "b"];
     /// let both = pool.scope(|scope| {
     ///     let gang = scope.submit(1, |group| words[group.rank()]).unwrap();

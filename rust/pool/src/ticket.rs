@@ -206,7 +206,7 @@ impl<T> Ticket<T> {
     /// Returns whether the job has ended.
     ///
     /// ```
-    /// # let pool = cubejobs_pool::Pool::builder().build()?;
+    /// # let pool = cubejobs_pool::Pool::builder().workers_log2(2).build()?;
     /// let ticket = pool.spawn(|| 7);
     /// while !ticket.is_finished() {
     ///     std::thread::yield_now();
@@ -230,7 +230,7 @@ impl<T> Ticket<T> {
     /// Panics if this is a call of the job itself, or of a job that runs on its stack.
     ///
     /// ```
-    /// # let pool = cubejobs_pool::Pool::builder().build()?;
+    /// # let pool = cubejobs_pool::Pool::builder().workers_log2(2).build()?;
     /// let gang = pool.submit(1, |group| group.rank() + 7).unwrap();
     /// assert_eq!(gang.join().unwrap(), 7);
     /// # Ok::<(), std::io::Error>(())
@@ -247,7 +247,7 @@ impl<T> Ticket<T> {
     /// in the order of their ranks.
     ///
     /// ```
-    /// # let pool = cubejobs_pool::Pool::builder().build()?;
+    /// # let pool = cubejobs_pool::Pool::builder().workers_log2(2).build()?;
     /// let ticket = pool.submit(1, |group| group.rank() * 10).unwrap();
     /// assert_eq!(ticket.join_all().unwrap(), [0, 10]);
     /// # Ok::<(), std::io::Error>(())
