@@ -114,8 +114,9 @@ def can_sanitize(work):
 
 def sanitized(target):
     if can_sanitize(target):
-        # The sanitizer reserves more memory than that test allows.
-        must(path(PACKAGE), target, ["test", "--tests", "--", "--skip", "a_limit_of_memory"], BUILD + RUN, True)
+        # The sanitizer reserves more memory than the first test allows, and keeps freed memory from the second.
+        skipped = ["--skip", "a_limit_of_memory", "--skip", "a_dropped_pool_frees_its_lanes"]
+        must(path(PACKAGE), target, ["test", "--tests", "--", *skipped], BUILD + RUN, True)
         print("pool: AddressSanitizer has nothing to say of the tests")
 
 
