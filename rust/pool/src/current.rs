@@ -118,7 +118,7 @@ pub(crate) fn wait(pool: usize, wait: &dyn Wait) {
 pub(crate) fn asleep<R>(call: impl FnOnce() -> R) -> R {
     let Some(local) = any() else { return call() };
     let mut kept = None;
-    while local.has_desk() && !local.has_left(&mut kept) {
+    while local.has_desk() && !local.try_to_leave(&mut kept) {
         thread::sleep(PAUSE);
     }
     let result = call();
@@ -331,7 +331,7 @@ impl Local {
             } else if !is_registered {
                 is_registered = true;
                 wait.register();
-            } else if !self.has_desk() || !self.has_left(&mut kept) {
+            } else if !self.has_desk() || !self.try_to_leave(&mut kept) {
                 self.park(wait, kept);
             }
         }
@@ -339,7 +339,7 @@ impl Local {
     }
 
     /// Leaves the worker. Returns whether the thread has none any more.
-    fn has_left(&self, kept: &mut Option<usize>) -> bool {
+    fn try_to_leave(&self, kept: &mut Option<usize>) -> bool {
         self.leave(None, kept);
         !self.has_desk()
     }
