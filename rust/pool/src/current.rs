@@ -317,12 +317,13 @@ impl Local {
             !(is_own && self.in_gang.get()),
             "a member of a gang waits for a job of its own pool: the pool could stand still"
         );
-        let host = if is_own { Some(self.shared.clone()) } else { pool_of(pool) };
+        let other = if is_own { None } else { pool_of(pool) };
+        let host = if is_own { Some(&self.shared) } else { other.as_ref() };
         let (mut yields, mut kept, mut is_registered) = (0, None, false);
         while !wait.is_over() {
             // A job of another pool may hold a worker of its own pool, and none of this one.
             let may_run = is_own || !self.has_desk();
-            if may_run && host.as_ref().is_some_and(|host| self.run_part(host, wait, &mut kept)) {
+            if may_run && host.is_some_and(|host| self.run_part(host, wait, &mut kept)) {
                 continue;
             }
             if self.has_desk() && yields < YIELDS {
@@ -371,11 +372,11 @@ impl Local {
 
     /// Runs a job of this pool or of another one before it is taken from its lane.
     fn run_early(&self, host: &Shared, job: Awaited) {
-        if host.overflow.has_jobs() {
-            host.overflow.count_early();
+        let is_own = host.number == self.shared.number;
+        if !is_own || self.with_desk(Desk::begins_early).is_none() {
+            host.overflow.count_early(1);
         }
-        if host.number == self.shared.number {
-            self.with_desk(|desk, _| desk.begun_early += 1);
+        if is_own {
             return self.run(job.into_job());
         }
         // The job is none of the gang whose member waits for it.

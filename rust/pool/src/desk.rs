@@ -2,6 +2,7 @@
 //! at a time.
 
 use crate::job::Job;
+use crate::overflow::LEAST_PRUNED;
 use crate::shared::Shared;
 use cubejobs::lanes::{self, Finding, Found, Lane, SubmitError, TakeError, Worker};
 
@@ -34,7 +35,9 @@ pub(crate) struct Desk {
     pub is_turn_of_one: bool,
     /// How many jobs were begun before they were taken from a lane. They are perhaps in the own
     /// one.
-    pub begun_early: usize,
+    begun_early: usize,
+    /// How many of them the overflow does not know of. All workers write to its count.
+    uncounted: usize,
     /// How many of the next jobs go to the overflow, if it has some.
     skips: u32,
     /// How many jobs were moved to the own lane, and not taken since.
@@ -61,6 +64,7 @@ impl Desk {
             looks: 0,
             is_turn_of_one: false,
             begun_early: 0,
+            uncounted: 0,
             skips: 0,
             moved: 0,
         }
@@ -74,6 +78,16 @@ impl Desk {
     pub fn begins(&mut self, pool: &Shared) {
         self.is_turn_of_one = false;
         self.looks = LOOKS.min(LOOKED_LANES / pool.lane_count);
+    }
+
+    /// Says that a job begins before it was taken from a lane.
+    pub fn begins_early(&mut self, pool: &Shared) {
+        self.begun_early += 1;
+        self.uncounted += 1;
+        if self.uncounted == LEAST_PRUNED {
+            pool.overflow.count_early(LEAST_PRUNED);
+            self.uncounted = 0;
+        }
     }
 
     /// Finds a job, or has the worker lie down.

@@ -16,7 +16,7 @@ use std::sync::Mutex;
 const TOKEN: u64 = 0;
 
 /// How many jobs must have begun before they were taken, until those in the list are looked for.
-const LEAST_PRUNED: usize = 64;
+pub(crate) const LEAST_PRUNED: usize = 64;
 
 /// How many jobs a worker moves to its lane at most when it takes one.
 const MOST_MOVED: usize = 64;
@@ -55,9 +55,11 @@ impl Overflow {
         }
     }
 
-    /// Counts a job that has begun before it was taken. It may be in a list.
-    pub fn count_early(&self) {
-        self.begun_early.fetch_add(1, Relaxed);
+    /// Counts jobs that have begun before they were taken. They may be in a list, if it has some.
+    pub fn count_early(&self, count: usize) {
+        if self.has_jobs() {
+            self.begun_early.fetch_add(count, Relaxed);
+        }
     }
 
     /// Returns whether the lists may have jobs.

@@ -41,15 +41,21 @@ pub(crate) struct ScopeState {
     panic: Mutex<Option<Payload>>,
 }
 
-/// Jobs that may be begun from here, in parts of which the last one is not full.
+/// Jobs that may be begun from here, in parts of which the last one is not full. The oldest job has
+/// a place of its own, so that a scope of one job allocates no part.
 #[derive(Default)]
 struct List {
+    oldest: Option<Awaited>,
     newest: Vec<Awaited>,
     others: VecDeque<Vec<Awaited>>,
 }
 
 impl List {
     fn push(&mut self, job: Awaited) {
+        if self.oldest.is_none() && self.newest.is_empty() && self.others.is_empty() {
+            self.oldest = Some(job);
+            return;
+        }
         self.newest.push(job);
         if self.newest.len() >= PART {
             self.others.push_back(mem::replace(&mut self.newest, Vec::with_capacity(PART)));
@@ -64,8 +70,10 @@ impl List {
                     return Some(job);
                 }
             }
-            self.newest = self.others.pop_back()?;
+            let Some(part) = self.others.pop_back() else { break };
+            self.newest = part;
         }
+        self.oldest.take().filter(|job| !job.has_begun())
     }
 }
 

@@ -195,6 +195,22 @@ fn a_job_without_a_worker_leaves_no_memory() {
     assert!(most <= 4 * MOST_LEFT, "{most} bytes at once");
 }
 
+/// The lane of the worker is full of jobs that cannot run before this one, and the overflow has some
+/// too. So each job that is joined goes to the overflow.
+#[test]
+fn a_worker_leaves_no_memory_in_the_overflow() {
+    let _limited = limited(200);
+    let pool = Arc::new(workers(1).lane_capacity(4).build().unwrap());
+    let inner = pool.clone();
+    let joins = pool.spawn(move || {
+        (0..10).for_each(|_| inner.detach(|| ()));
+        join_often(&inner, 100_000)
+    });
+    let (left, most) = joins.join().unwrap();
+    assert!(left <= MOST_LEFT, "{left} bytes are left");
+    assert!(most <= 4 * MOST_LEFT, "{most} bytes at once");
+}
+
 /// Returns the bytes of this process that are in memory, after all that is free was given back.
 fn resident() -> usize {
     // SAFETY: the function of glibc may be called at any time.
