@@ -769,15 +769,23 @@ fn numbers_out_of_range_are_refused() {
     );
 }
 
-/// Memory runs out for the lanes, and then for the threads: the builder says so, and leaves no
-/// thread. The test runs again in a process with a limit.
+/// Memory runs out for the lanes, and then for the stacks of threads: the builder says so, and leaves
+/// no thread. The test runs again in a process with a limit. A stack is large there, so that enough
+/// is left for the threads that have begun: std panics in a thread that has no memory.
 #[test]
 fn a_limit_of_memory_is_an_error() {
     const LIMITED: &str = "POOL_TEST_IS_LIMITED";
     if env::var_os(LIMITED).is_none() {
         let again = "ulimit -v 200000 && exec \"$0\" --exact a_limit_of_memory_is_an_error";
         let test = env::current_exe().unwrap();
-        let output = Command::new("sh").arg("-c").arg(again).arg(test).env(LIMITED, "yes").output().unwrap();
+        let output = Command::new("sh")
+            .arg("-c")
+            .arg(again)
+            .arg(test)
+            .env(LIMITED, "yes")
+            .env("MALLOC_ARENA_MAX", "1")
+            .output()
+            .unwrap();
         let said = String::from_utf8_lossy(&output.stdout);
         assert!(output.status.success() && said.contains("1 passed"), "{said}");
         return;
@@ -785,7 +793,7 @@ fn a_limit_of_memory_is_an_error() {
     let _limited = limited(30);
     let large = Pool::builder().workers_log2(10).shared_lanes(1024).client_lanes(1024);
     assert_eq!(large.build().unwrap_err().kind(), ErrorKind::OutOfMemory);
-    let many = Pool::builder().workers_log2(8).lane_capacity(16);
+    let many = Pool::builder().workers_log2(3).stack_size(50 << 20);
     assert_eq!(many.build().unwrap_err().kind(), ErrorKind::WouldBlock);
     wait_for_threads(0);
     assert!(is_whole(&pool(1)));
