@@ -63,8 +63,12 @@ static void find_cpus(void) {
     }
     qsort(cpus, count, sizeof *cpus, by_place);
     while (1u << dim < count) dim++;
-    cubejobs_fit_open(&fit, held, sizeof held, dim);
-    for (unsigned p = count; p < 1u << dim; p++) cubejobs_fit_take_region(&fit, p, 0);
+    unsigned code = cubejobs_fit_open(&fit, held, sizeof held, dim);
+    for (unsigned p = count; !code && p < 1u << dim; p++) code = cubejobs_fit_take_region(&fit, p, 0).code;
+    if (code) {
+        fprintf(stderr, "pinjobs: %s\n", cubejobs_code_text(code));
+        exit(1);
+    }
 }
 
 static unsigned read_jobs(const char *name) {

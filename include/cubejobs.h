@@ -34,16 +34,15 @@
 #include <stddef.h>
 #include <stdint.h>
 
+#include "cubejobs_codes.h"
+
 /* A byte that is 0 or 1: the language's own type, for which C89 has no name. */
 #if defined(__cplusplus)
-#define CUBEJOBS_INLINE inline
 typedef bool cubejobs_bool;
 #elif defined(__STDC_VERSION__) && __STDC_VERSION__ >= 199901L
 #include <stdbool.h>
-#define CUBEJOBS_INLINE inline
 typedef bool cubejobs_bool;
 #else
-#define CUBEJOBS_INLINE __inline__
 __extension__ typedef _Bool cubejobs_bool;
 #endif
 
@@ -53,8 +52,8 @@ extern "C" {
 
 /* The version of this header, as a text and as a number: 1.2.3 is 10203. The library returns its
  * own by cubejobs_version_number. */
-#define CUBEJOBS_VERSION "0.2.1-dev"
-#define CUBEJOBS_VERSION_NUMBER 201
+#define CUBEJOBS_VERSION "0.3.0-dev"
+#define CUBEJOBS_VERSION_NUMBER 300
 
 /* The largest dimension of a machine, and its number of stations: their numbers are 0 to 47. */
 #define CUBEJOBS_MAX_DIM 12
@@ -62,17 +61,20 @@ extern "C" {
 
 /* The codes that calls return. */
 enum cubejobs_code {
-    CUBEJOBS_DONE = 0,          /* the call succeeded */
-    CUBEJOBS_NO_SUBCUBE = 1,    /* no block of this dimension is free, or the given one is not */
-    CUBEJOBS_BAD_DIMENSION = 2, /* above the machine's dimension, or above that of any machine */
-    CUBEJOBS_BAD_STATION = 3,   /* not below CUBEJOBS_MAX_STATIONS */
-    CUBEJOBS_STATION_HOLDS = 4, /* the station holds a block already */
-    CUBEJOBS_NOTHING_HELD = 5,  /* the station holds none, or a processor of the block is free */
-    CUBEJOBS_BAD_BASE = 6,      /* no block of this dimension begins at this processor */
-    CUBEJOBS_BAD_SIZE = 7,      /* this header is not the library's, or the memory is too small */
-    CUBEJOBS_NO_STATION = 8,    /* every station holds a block */
-    CUBEJOBS_BAD_BITS = 9       /* a byte of the machine is neither 0 nor 1 */
+    CUBEJOBS_DONE = 0,           /* the call succeeded */
+    CUBEJOBS_BAD_DIMENSION = 3,  /* above the machine's dimension, or above that of any machine */
+    CUBEJOBS_BAD_BASE = 4,       /* no block of this dimension begins at this processor */
+    CUBEJOBS_NOTHING_HELD = 6,   /* the station holds none, or a processor of the block is free */
+    CUBEJOBS_BAD_SIZE = 50,      /* this header is not the library's, or the memory is too small */
+    CUBEJOBS_BAD_BITS = 51,      /* a byte of the machine is neither 0 nor 1 */
+    CUBEJOBS_BAD_STATION = 52,   /* not below CUBEJOBS_MAX_STATIONS */
+    CUBEJOBS_STATION_HOLDS = 53, /* the station holds a block already */
+    CUBEJOBS_NO_STATION = 54,    /* every station holds a block */
+    CUBEJOBS_NO_SUBCUBE = 60     /* no block of this dimension is free, or the given one is not */
 };
+
+/* The structs are those of the library only if an enum has 32 bits. */
+typedef char cubejobs_code_has_32_bits[sizeof(enum cubejobs_code) == 4 ? 1 : -1];
 
 /* The block of one station, if it holds one. Only the library writes to it. */
 struct cubejobs_slot {
@@ -91,7 +93,7 @@ struct cubejobs_machine {
 /* The result of a call about a block. If the code is CUBEJOBS_DONE, the block is the 2^dim
  * processors from base on. Otherwise base and dim are 0. */
 struct cubejobs_answer {
-    uint32_t code;
+    enum cubejobs_code code;
     uint32_t dim;
     uint64_t base;
 };
@@ -105,14 +107,15 @@ struct cubejobs_holder_answer {
 /* The result of cubejobs_take_any. If the code is CUBEJOBS_DONE, the station got the 2^dim
  * processors from base on. Otherwise station, dim and base are 0. */
 struct cubejobs_station_answer {
-    uint32_t code;
+    enum cubejobs_code code;
     uint32_t station;
     uint32_t dim;
     uint64_t base;
 };
 
 /* Does what cubejobs_open does, which calls it with the size of a machine of this header. */
-uint32_t cubejobs_open_sized(struct cubejobs_machine *machine, uint64_t size, uint32_t dim);
+CUBEJOBS_NODISCARD enum cubejobs_code cubejobs_open_sized(struct cubejobs_machine *machine, uint64_t size,
+                                                          uint32_t dim);
 
 /* Makes the machine one of dimension `dim` whose stations hold nothing, whatever it was before.
  * Returns the first of these that applies:
@@ -120,25 +123,26 @@ uint32_t cubejobs_open_sized(struct cubejobs_machine *machine, uint64_t size, ui
  *     make any other call;
  *   - CUBEJOBS_BAD_DIMENSION if `dim` is above CUBEJOBS_MAX_DIM: the machine stays as it is;
  *   - CUBEJOBS_DONE. */
-static CUBEJOBS_INLINE uint32_t cubejobs_open(struct cubejobs_machine *machine, uint32_t dim) {
+CUBEJOBS_NODISCARD CUBEJOBS_INLINE enum cubejobs_code cubejobs_open(struct cubejobs_machine *machine, uint32_t dim) {
     return cubejobs_open_sized(machine, sizeof *machine, dim);
 }
 
 /* Takes the first fit of dimension `k` for a station that holds nothing, and returns it. The code
  * is CUBEJOBS_DONE, or the first of these that applies: CUBEJOBS_BAD_STATION,
  * CUBEJOBS_BAD_DIMENSION, CUBEJOBS_STATION_HOLDS, CUBEJOBS_NO_SUBCUBE. */
-struct cubejobs_answer cubejobs_take(struct cubejobs_machine *machine, uint32_t station, uint32_t k);
+CUBEJOBS_NODISCARD struct cubejobs_answer cubejobs_take(struct cubejobs_machine *machine, uint32_t station, uint32_t k);
 
 /* Takes the first fit of dimension `k` for the first station, by number, that holds nothing, and
  * returns both. The code is CUBEJOBS_DONE, or the first of these that applies:
  * CUBEJOBS_BAD_DIMENSION, CUBEJOBS_NO_STATION, CUBEJOBS_NO_SUBCUBE. */
-struct cubejobs_station_answer cubejobs_take_any(struct cubejobs_machine *machine, uint32_t k);
+CUBEJOBS_NODISCARD struct cubejobs_station_answer cubejobs_take_any(struct cubejobs_machine *machine, uint32_t k);
 
 /* Takes the block of dimension `k` that begins at the processor `base`, for a station that holds
  * nothing. The code is CUBEJOBS_DONE, or the first of these that applies: CUBEJOBS_BAD_STATION,
  * CUBEJOBS_BAD_DIMENSION, CUBEJOBS_BAD_BASE, CUBEJOBS_STATION_HOLDS, CUBEJOBS_NO_SUBCUBE if a held
  * block overlaps it. */
-struct cubejobs_answer cubejobs_take_region(struct cubejobs_machine *machine, uint32_t station, uint64_t base, uint32_t k);
+CUBEJOBS_NODISCARD struct cubejobs_answer cubejobs_take_region(struct cubejobs_machine *machine, uint32_t station,
+                                                               uint64_t base, uint32_t k);
 
 /* Returns the block that a station holds. The code is CUBEJOBS_DONE, or CUBEJOBS_BAD_STATION or
  * CUBEJOBS_NOTHING_HELD. */
@@ -203,21 +207,28 @@ uint64_t cubejobs_fit_bytes(uint32_t dim);
  * are proved, and the inline calls are tested. Each returns what its inline call returns:
  * CUBEJOBS_BAD_DIMENSION if `dim` is above CUBEJOBS_FIT_MAX_DIM, CUBEJOBS_BAD_SIZE if `count` is
  * below 2^dim. Never pass null, even if `count` is 0. */
-uint32_t cubejobs_bits_open(uint8_t *bytes, size_t count, uint32_t dim);
-uint32_t cubejobs_bits_check(const uint8_t *bytes, size_t count, uint32_t dim);
-struct cubejobs_answer cubejobs_bits_take(cubejobs_bool *bits, size_t count, uint32_t dim, uint32_t k);
-struct cubejobs_answer cubejobs_bits_take_region(cubejobs_bool *bits, size_t count, uint32_t dim, uint64_t base, uint32_t k);
-uint32_t cubejobs_bits_release(cubejobs_bool *bits, size_t count, uint32_t dim, uint64_t base, uint32_t k);
+CUBEJOBS_NODISCARD enum cubejobs_code cubejobs_bits_open(uint8_t *bytes, size_t count, uint32_t dim);
+CUBEJOBS_NODISCARD enum cubejobs_code cubejobs_bits_check(const uint8_t *bytes, size_t count, uint32_t dim);
+CUBEJOBS_NODISCARD struct cubejobs_answer cubejobs_bits_take(cubejobs_bool *bits, size_t count, uint32_t dim,
+                                                             uint32_t k);
+CUBEJOBS_NODISCARD struct cubejobs_answer cubejobs_bits_take_region(cubejobs_bool *bits, size_t count, uint32_t dim,
+                                                                    uint64_t base, uint32_t k);
+enum cubejobs_code cubejobs_bits_release(cubejobs_bool *bits, size_t count, uint32_t dim, uint64_t base, uint32_t k);
 cubejobs_bool cubejobs_bits_is_free(const cubejobs_bool *bits, size_t count, uint32_t dim, uint64_t base, uint32_t k);
 uint64_t cubejobs_bits_free_regions(const cubejobs_bool *bits, size_t count, uint32_t dim, uint32_t k);
 struct cubejobs_answer cubejobs_bits_largest(const cubejobs_bool *bits, size_t count, uint32_t dim);
 
 /* Returns the bytes of a view. The function after it returns their number: 0 if there are none. */
-static CUBEJOBS_INLINE cubejobs_bool *cubejobs_fit_bits(const struct cubejobs_fit *fit) {
-    return fit->bits ? fit->bits : (cubejobs_bool *)1;
+CUBEJOBS_INLINE cubejobs_bool *cubejobs_fit_bits(const struct cubejobs_fit *fit) {
+    return fit->bits ? fit->bits : CUBEJOBS_CAST(cubejobs_bool *, 1);
 }
-static CUBEJOBS_INLINE size_t cubejobs_fit_count(const struct cubejobs_fit *fit) {
-    return fit->bits ? (size_t)cubejobs_fit_bytes(fit->dim) : 0;
+CUBEJOBS_INLINE size_t cubejobs_fit_count(const struct cubejobs_fit *fit) {
+    return fit->bits ? CUBEJOBS_AS(size_t, cubejobs_fit_bytes(fit->dim)) : 0;
+}
+
+/* Returns memory as bytes, and never null. */
+CUBEJOBS_INLINE uint8_t *cubejobs_fit_memory(void *memory) {
+    return memory ? CUBEJOBS_AS(uint8_t *, memory) : CUBEJOBS_CAST(uint8_t *, 1);
 }
 
 /* Makes the `size` bytes at `memory` a machine of dimension `dim` with each processor free,
@@ -225,10 +236,11 @@ static CUBEJOBS_INLINE size_t cubejobs_fit_count(const struct cubejobs_fit *fit)
  * first of these that applies:
  *   - CUBEJOBS_BAD_DIMENSION if `dim` is above CUBEJOBS_FIT_MAX_DIM;
  *   - CUBEJOBS_BAD_SIZE if `size` is below cubejobs_fit_bytes(dim), or `memory` is null. */
-static CUBEJOBS_INLINE uint32_t cubejobs_fit_open(struct cubejobs_fit *fit, void *memory, size_t size, uint32_t dim) {
-    uint32_t code = cubejobs_bits_open(memory ? (uint8_t *)memory : (uint8_t *)1, memory ? size : 0, dim);
+CUBEJOBS_NODISCARD CUBEJOBS_INLINE enum cubejobs_code cubejobs_fit_open(struct cubejobs_fit *fit, void *memory,
+                                                                        size_t size, uint32_t dim) {
+    enum cubejobs_code code = cubejobs_bits_open(cubejobs_fit_memory(memory), memory ? size : 0, dim);
     if (code == CUBEJOBS_DONE) {
-        fit->bits = (cubejobs_bool *)memory;
+        fit->bits = CUBEJOBS_AS(cubejobs_bool *, memory);
         fit->dim = dim;
     }
     return code;
@@ -237,10 +249,11 @@ static CUBEJOBS_INLINE uint32_t cubejobs_fit_open(struct cubejobs_fit *fit, void
 /* Uses the `size` bytes at `memory` as a machine of dimension `dim` that was opened before, by
  * another process or in a file. Changes none of them. Returns what cubejobs_fit_open returns, or
  * CUBEJOBS_BAD_BITS if one of the machine's bytes is neither 0 nor 1. */
-static CUBEJOBS_INLINE uint32_t cubejobs_fit_attach(struct cubejobs_fit *fit, void *memory, size_t size, uint32_t dim) {
-    uint32_t code = cubejobs_bits_check(memory ? (const uint8_t *)memory : (const uint8_t *)1, memory ? size : 0, dim);
+CUBEJOBS_NODISCARD CUBEJOBS_INLINE enum cubejobs_code cubejobs_fit_attach(struct cubejobs_fit *fit, void *memory,
+                                                                          size_t size, uint32_t dim) {
+    enum cubejobs_code code = cubejobs_bits_check(cubejobs_fit_memory(memory), memory ? size : 0, dim);
     if (code == CUBEJOBS_DONE) {
-        fit->bits = (cubejobs_bool *)memory;
+        fit->bits = CUBEJOBS_AS(cubejobs_bool *, memory);
         fit->dim = dim;
     }
     return code;
@@ -251,39 +264,40 @@ static CUBEJOBS_INLINE uint32_t cubejobs_fit_attach(struct cubejobs_fit *fit, vo
  *   - CUBEJOBS_BAD_DIMENSION if `k` is above the machine's dimension;
  *   - CUBEJOBS_BAD_SIZE if the view has no bytes;
  *   - CUBEJOBS_NO_SUBCUBE. */
-static CUBEJOBS_INLINE struct cubejobs_answer cubejobs_fit_take(struct cubejobs_fit *fit, uint32_t k) {
+CUBEJOBS_NODISCARD CUBEJOBS_INLINE struct cubejobs_answer cubejobs_fit_take(struct cubejobs_fit *fit, uint32_t k) {
     return cubejobs_bits_take(cubejobs_fit_bits(fit), cubejobs_fit_count(fit), fit->dim, k);
 }
 
 /* Takes the block of dimension `k` that begins at the processor `base`. The code is CUBEJOBS_DONE,
  * or the first of these that applies: CUBEJOBS_BAD_DIMENSION, CUBEJOBS_BAD_SIZE, CUBEJOBS_BAD_BASE,
  * CUBEJOBS_NO_SUBCUBE if one of its processors is held. */
-static CUBEJOBS_INLINE struct cubejobs_answer cubejobs_fit_take_region(struct cubejobs_fit *fit, uint64_t base, uint32_t k) {
+CUBEJOBS_NODISCARD CUBEJOBS_INLINE struct cubejobs_answer cubejobs_fit_take_region(struct cubejobs_fit *fit,
+                                                                                   uint64_t base, uint32_t k) {
     return cubejobs_bits_take_region(cubejobs_fit_bits(fit), cubejobs_fit_count(fit), fit->dim, base, k);
 }
 
 /* Releases the block of dimension `k` that begins at the processor `base`. Returns CUBEJOBS_DONE,
  * or the first of these that applies: CUBEJOBS_BAD_DIMENSION, CUBEJOBS_BAD_SIZE, CUBEJOBS_BAD_BASE,
  * CUBEJOBS_NOTHING_HELD if one of its processors is free. */
-static CUBEJOBS_INLINE uint32_t cubejobs_fit_release(struct cubejobs_fit *fit, uint64_t base, uint32_t k) {
+CUBEJOBS_INLINE enum cubejobs_code cubejobs_fit_release(struct cubejobs_fit *fit, uint64_t base, uint32_t k) {
     return cubejobs_bits_release(cubejobs_fit_bits(fit), cubejobs_fit_count(fit), fit->dim, base, k);
 }
 
 /* Returns whether a block of dimension `k` begins at the processor `base`, and all of its
  * processors are free. */
-static CUBEJOBS_INLINE cubejobs_bool cubejobs_fit_is_free(const struct cubejobs_fit *fit, uint64_t base, uint32_t k) {
+CUBEJOBS_INLINE cubejobs_bool cubejobs_fit_is_free(const struct cubejobs_fit *fit, uint64_t base, uint32_t k) {
     return cubejobs_bits_is_free(cubejobs_fit_bits(fit), cubejobs_fit_count(fit), fit->dim, base, k);
 }
 
 /* Returns how many blocks of dimension `k` are free: 0 if `k` is above the machine's dimension. */
-static CUBEJOBS_INLINE uint64_t cubejobs_fit_free_regions(const struct cubejobs_fit *fit, uint32_t k) {
+CUBEJOBS_INLINE uint64_t cubejobs_fit_free_regions(const struct cubejobs_fit *fit, uint32_t k) {
     return cubejobs_bits_free_regions(cubejobs_fit_bits(fit), cubejobs_fit_count(fit), fit->dim, k);
 }
 
 /* Returns the first free block of the largest dimension that has one. Nothing is taken. The code is
  * CUBEJOBS_DONE, or the first of these that applies: CUBEJOBS_BAD_DIMENSION, CUBEJOBS_BAD_SIZE,
  * CUBEJOBS_NO_SUBCUBE if each processor is held. */
-static CUBEJOBS_INLINE struct cubejobs_answer cubejobs_fit_largest(const struct cubejobs_fit *fit) {
+CUBEJOBS_INLINE struct cubejobs_answer cubejobs_fit_largest(const struct cubejobs_fit *fit) {
     return cubejobs_bits_largest(cubejobs_fit_bits(fit), cubejobs_fit_count(fit), fit->dim);
 }
 

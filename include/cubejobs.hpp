@@ -6,11 +6,18 @@
  * cubejobs::lanes and cubejobs::dispatch own those of cubejobs_dispatch.h. They give out a lane for
  * each producer and a worker for each consumer. cubejobs::running is a job on its block.
  *
- * All owners move, and none is copied. A machine lasts as long as a handle of it or a block. Lanes
+ * All owners move, and none is copied. One that was moved from is empty: its calls answer NOT_OPEN,
+ * and BAD_SIZE that of a first_fit. A machine lasts as long as a handle of it or a block. Lanes
  * last as long as a lane, a worker or a running job. The duties are those of the C headers. These
  * types keep all that is about handles, except that one thread at a time uses a machine's handle, a
  * lane or a worker. Blocks and running jobs use the handle with which they were taken, until
  * machine::adopt gives a block another.
+ *
+ * An owner that cannot be opened throws a cubejobs::error. Without exceptions (-fno-exceptions) it
+ * is empty, and code() has the reason. Where memory of C++ runs out, the program ends then.
+ *
+ * The waits of a machine are those of cubejobs_wait.h: take_or_wait, take_for, take_until and
+ * stop_waits. They sleep by a mutex and a condition variable, in each standard.
  *
  * In C++20 a worker can sleep: next() waits for a job, as cubejobs_wait.h does in C, and says there
  * why no wake-up is lost. Before C++20 there is try_next() alone. Files of a program may use the
@@ -20,6 +27,8 @@
 #define CUBEJOBS_HPP
 
 #include <atomic>
+#include <chrono>
+#include <condition_variable>
 #include <cstdint>
 #include <memory>
 #include <mutex>
@@ -34,15 +43,20 @@
 
 namespace cubejobs {
 
+#if defined(__cpp_exceptions) || defined(__EXCEPTIONS)
+#define CUBEJOBS_THROWS 1
 /* The error of a handle that was not opened, or of lanes that cannot end, with its code. */
 struct error : std::runtime_error {
-    error(std::uint32_t number, const char *text) : std::runtime_error(text), code(number) {}
+    explicit error(std::uint32_t number) : std::runtime_error(cubejobs_code_text(number)), code(number) {}
     std::uint32_t code;
 };
 
 inline void check(std::uint32_t code) {
-    if (code) throw error(code, cubejobs_code_text(code));
+    if (code) throw error(code);
 }
+#else
+inline void check(std::uint32_t) {}
+#endif
 
 /* A block of a machine of type M, a job on its block, or the code of the call that was refused. */
 template <class M> class owned {
@@ -61,71 +75,185 @@ template <class M> class owned {
     /* Releases the block now. Then this owns nothing. */
     void release() {
         if (handle) M::release(*handle, held, taken);
-        handle.reset(), taken = M::nothing();
+        handle.reset();
+        taken = M::nothing();
     }
 
   protected:
     friend M;
     void swap(owned &other) {
-        std::swap(handle, other.handle), std::swap(held, other.held), std::swap(taken, other.taken);
+        std::swap(handle, other.handle);
+        std::swap(held, other.held);
+        std::swap(taken, other.taken);
     }
-    std::shared_ptr<typename M::shared> handle;
+    std::shared_ptr<typename M::shared> handle = {};
     typename M::place held = {};
     typename M::answer taken = M::nothing();
+};
+
+/* The event count of a machine, as that of cubejobs_wait.h. */
+class event {
+  public:
+    using clock = std::chrono::steady_clock;
+    void raise() {
+        std::uint32_t now = state;
+        if (now % 2 == 0 || !state.compare_exchange_strong(now, now + 1)) return;
+        { std::lock_guard<std::mutex> locked(sleep); }
+        changed.notify_all();
+    }
+    void stop() {
+        is_stopped = true;
+        raise();
+    }
+    /* Sleeps until it is raised, or until a deadline. Returns whether the deadline passed before. */
+    bool wait(std::uint32_t key, const clock::time_point *deadline) {
+        std::unique_lock<std::mutex> locked(sleep);
+        const auto is_raised = [this, key] { return state != key; };
+        if (deadline) return !changed.wait_until(locked, *deadline, is_raised);
+        changed.wait(locked, is_raised);
+        return false;
+    }
+    std::atomic<std::uint32_t> state{0};
+    std::atomic<bool> is_stopped{false};
+    std::mutex turn{};
+
+  private:
+    std::mutex sleep{};
+    std::condition_variable changed{};
 };
 
 /* A handle of a machine of regions. */
 class machine {
   public:
     using block = owned<machine>;
-    explicit machine(std::uint32_t dim) : machine() { check(cubejobs_regions_open(handle.get(), dim)); }
+    explicit machine(std::uint32_t dim) : handle(std::make_shared<shared>(std::make_shared<event>())) {
+        opened(cubejobs_regions_open(&handle->at, dim));
+    }
     machine(machine &&) = default;
     machine &operator=(machine &&) = default;
+    /* Returns why the handle is not open: DONE if it is, NOT_OPEN if it was moved from. */
+    std::uint32_t code() const { return handle ? std::uint32_t{CUBEJOBS_REGIONS_DONE} : reason; }
     /* Returns a handle for another thread. */
     machine share() {
         machine other;
-        check(cubejobs_regions_share(handle.get(), other.handle.get()));
+        if (handle) other.handle = std::make_shared<shared>(handle->waits);
+        other.opened(handle ? cubejobs_regions_share(&handle->at, &other.handle->at) : CUBEJOBS_REGIONS_NOT_OPEN);
         return other;
     }
-    block take(std::uint32_t k) { return filled(cubejobs_regions_take, k); }
-    block take_exact(std::uint32_t k) { return filled(cubejobs_regions_take_exact, k); }
-    block take_at(std::uint64_t base, std::uint32_t k) { return filled(cubejobs_regions_take_at, base, k); }
+    block take(std::uint32_t k) { return raised(filled(cubejobs_regions_take, k)); }
+    block take_exact(std::uint32_t k) { return raised(filled(cubejobs_regions_take_exact, k)); }
+    block take_at(std::uint64_t base, std::uint32_t k) { return raised(filled(cubejobs_regions_take_at, base, k)); }
+    /* Takes a block, and sleeps until it can. The code is neither NO_ROOM nor NOT_NOW. */
+    block take_or_wait(std::uint32_t k) { return waited(k, nullptr); }
+    /* Takes a block, and sleeps until it can or the time has come. Then the code is TIMED_OUT. */
+    block take_until(std::uint32_t k, event::clock::time_point deadline) { return waited(k, &deadline); }
+    /* The same for at most this time. A time that the clock does not reach is no deadline. */
+    template <class Rep, class Period> block take_for(std::uint32_t k, const std::chrono::duration<Rep, Period> &time) {
+        using seconds = std::chrono::duration<double>;
+        const event::clock::time_point now = event::clock::now();
+        if (seconds(time) >= seconds(event::clock::time_point::max() - now)) return take_or_wait(k);
+        return take_until(k, now + std::chrono::duration_cast<event::clock::duration>(time));
+    }
+    /* Ends all waits of the machine with STOPPED: those of now and of later, of all its handles. */
+    void stop_waits() {
+        if (handle) handle->waits->stop();
+    }
     /* Has a block use this handle from now on: call it in the thread that has the block. */
     void adopt(block &of_this_machine) {
-        if (of_this_machine) of_this_machine.handle = handle;
+        if (of_this_machine && handle) of_this_machine.handle = handle;
     }
     /* Leaves the block its lower half, and returns the upper one. One processor has no halves. */
     block split(block &lower) {
         block upper;
-        std::uint32_t code = cubejobs_regions_split(handle.get(), &lower.held, &upper.held);
-        upper.taken.code = static_cast<std::uint16_t>(code);
-        if (!upper.taken.code) upper.handle = handle, look(lower), look(upper);
+        upper.taken.code = CUBEJOBS_REGIONS_NOT_OPEN;
+        if (!handle) return upper;
+        upper.taken.code = static_cast<std::uint16_t>(cubejobs_regions_split(&handle->at, &lower.held, &upper.held));
+        if (upper.taken.code) return upper;
+        upper.handle = handle;
+        look(lower);
+        look(upper);
         return upper;
     }
     /* Joins a lower half with the upper one, which then owns nothing. Returns whether it did. */
     bool join(block &lower, block &upper) {
-        if (&lower == &upper || cubejobs_regions_join(handle.get(), &lower.held, &upper.held)) return false;
-        upper.handle.reset(), look(lower), look(upper);
+        if (&lower == &upper || !handle) return false;
+        if (cubejobs_regions_join(&handle->at, &lower.held, &upper.held)) return false;
+        upper.handle.reset();
+        look(lower);
+        look(upper);
         return true;
     }
-    cubejobs_regions_occupancy_answer occupancy() { return cubejobs_regions_occupancy(handle.get()); }
+    cubejobs_regions_occupancy_answer occupancy() {
+        cubejobs_regions_occupancy_answer none = {CUBEJOBS_REGIONS_NOT_OPEN, 0, false, 0, {0}};
+        return handle ? cubejobs_regions_occupancy(&handle->at) : none;
+    }
 
   private:
     friend block;
-    using shared = cubejobs_regions;
+    struct shared {
+        explicit shared(std::shared_ptr<event> of_machine) : waits(std::move(of_machine)) {}
+        shared(const shared &) = delete;
+        shared &operator=(const shared &) = delete;
+        ~shared() { cubejobs_regions_free(&at); }
+        cubejobs_regions at = {};
+        std::shared_ptr<event> waits;
+    };
     using place = cubejobs_block;
     using answer = cubejobs_regions_answer;
     static answer nothing() { return {CUBEJOBS_REGIONS_NOTHING_HELD, 0, 0, 0}; }
-    static void release(shared &thread, place &held, answer) { cubejobs_regions_release(&thread, &held); }
+    static void release(shared &thread, place &held, answer) {
+        cubejobs_regions_release(&thread.at, &held);
+        thread.waits->raise();
+    }
     static void look(block &it) { it.taken = cubejobs_regions_block(&it.held); }
-    machine() : handle(new cubejobs_regions(), [](shared *old) { cubejobs_regions_free(old), delete old; }) {}
-    template <class... Numbers> block filled(answer (*call)(shared *, place *, Numbers...), Numbers... numbers) {
+    machine() = default;
+    void opened(std::uint32_t code) {
+        if (code) handle.reset();
+        reason = code ? code : std::uint32_t{CUBEJOBS_REGIONS_NOT_OPEN};
+        check(code);
+    }
+    template <class... Numbers>
+    block filled(answer (*call)(cubejobs_regions *, place *, Numbers...), Numbers... numbers) {
         block made;
-        made.taken = call(handle.get(), &made.held, numbers...);
+        made.taken.code = CUBEJOBS_REGIONS_NOT_OPEN;
+        if (handle) made.taken = call(&handle->at, &made.held, numbers...);
         if (!made.taken.code) made.handle = handle;
         return made;
     }
-    std::shared_ptr<shared> handle;
+    block raised(block made) {
+        if (handle) handle->waits->raise();
+        return made;
+    }
+    static block refused(cubejobs_regions_code code) {
+        block none;
+        none.taken.code = static_cast<std::uint16_t>(code);
+        return none;
+    }
+    /* Makes an exact take as the only waiter that does, unless the waits were stopped. */
+    block in_turn(std::uint32_t k, std::uint32_t &key) {
+        std::lock_guard<std::mutex> locked(handle->waits->turn);
+        key = handle->waits->state.fetch_or(1) | 1;
+        return handle->waits->is_stopped ? refused(CUBEJOBS_REGIONS_STOPPED) : filled(cubejobs_regions_take_exact, k);
+    }
+    /* As cubejobs_regions_take_until does, which says why no wake-up is lost. */
+    block waited(std::uint32_t k, const event::clock::time_point *deadline) {
+        if (handle && handle->waits->is_stopped) return refused(CUBEJOBS_REGIONS_STOPPED);
+        block made = take(k);
+        bool is_late = false;
+        while (!is_late && (made.code() == CUBEJOBS_REGIONS_NOT_NOW || made.code() == CUBEJOBS_REGIONS_NO_ROOM)) {
+            std::uint32_t key = 0;
+            made = in_turn(k, key);
+            if (made.code() == CUBEJOBS_REGIONS_NO_ROOM) {
+                is_late = handle->waits->wait(key, deadline);
+            } else if (made.code() == CUBEJOBS_REGIONS_NOT_NOW) {
+                is_late = deadline && event::clock::now() >= *deadline;
+                std::this_thread::yield();
+            }
+        }
+        return is_late ? refused(CUBEJOBS_REGIONS_TIMED_OUT) : std::move(made);
+    }
+    std::shared_ptr<shared> handle = {};
+    std::uint32_t reason = CUBEJOBS_REGIONS_NOT_OPEN;
 };
 using block = machine::block;
 
@@ -133,12 +261,22 @@ using block = machine::block;
 class first_fit {
   public:
     using block = owned<first_fit>;
-    explicit first_fit(std::uint32_t dim) : handle(std::make_shared<shared>(dim)) {}
+    explicit first_fit(std::uint32_t dim) : handle(std::make_shared<shared>(dim)) {
+        reason = handle->opened;
+        if (reason) handle.reset();
+        check(reason);
+    }
     first_fit(first_fit &&) = default;
     first_fit &operator=(first_fit &&) = default;
+    /* Returns why there is no machine: DONE if there is one, BAD_SIZE if it was moved from. */
+    std::uint32_t code() const {
+        if (handle) return CUBEJOBS_DONE;
+        return reason ? reason : std::uint32_t{CUBEJOBS_BAD_SIZE};
+    }
     block take(std::uint32_t k) {
         block made;
-        made.taken = cubejobs_fit_take(&handle->fit, k);
+        made.taken.code = CUBEJOBS_BAD_SIZE;
+        if (handle) made.taken = cubejobs_fit_take(&handle->fit, k);
         if (!made.taken.code) made.handle = handle;
         return made;
     }
@@ -146,12 +284,12 @@ class first_fit {
   private:
     friend block;
     struct shared {
-        explicit shared(std::uint32_t dim) : bytes(new unsigned char[cubejobs_fit_bytes(dim) + 1]) {
-            std::uint32_t code = cubejobs_fit_open(&fit, bytes.get(), cubejobs_fit_bytes(dim), dim);
-            if (code) throw error(code, "the dimension is above that of any machine");
-        }
+        explicit shared(std::uint32_t dim)
+            : bytes(new unsigned char[cubejobs_fit_bytes(dim) + 1]),
+              opened(cubejobs_fit_open(&fit, bytes.get(), cubejobs_fit_bytes(dim), dim)) {}
         std::unique_ptr<unsigned char[]> bytes;
         cubejobs_fit fit = {nullptr, 0};
+        cubejobs_code opened;
     };
     struct place {};
     using answer = cubejobs_answer;
@@ -160,6 +298,7 @@ class first_fit {
         cubejobs_fit_release(&machine.fit, taken.base, taken.dim);
     }
     std::shared_ptr<shared> handle;
+    std::uint32_t reason = CUBEJOBS_DONE;
 };
 
 /* Files that let workers sleep, and files that do not, have types of their own. */
@@ -172,12 +311,17 @@ class parking {
   public:
     explicit parking(std::uint32_t workers) : words(workers) {}
     void unpark(std::uint32_t worker) {
-        if (worker < words.size()) words[worker] = 1, words[worker].notify_all();
+        if (worker >= words.size()) return;
+        words[worker] = 1;
+        words[worker].notify_all();
     }
     void unpark_all() {
         for (std::uint32_t worker = 0; worker < words.size(); worker++) unpark(worker);
     }
-    void park(std::uint32_t worker) { words[worker].wait(0), words[worker] = 0; }
+    void park(std::uint32_t worker) {
+        words[worker].wait(0);
+        words[worker] = 0;
+    }
     std::uint32_t key() { return room.fetch_or(1) | 1; }
     void raise() {
         std::uint32_t state = room;
@@ -187,7 +331,7 @@ class parking {
     std::vector<std::atomic<std::uint32_t>> words;
     std::atomic<std::uint32_t> room{0};
     std::atomic<bool> is_stopped{false};
-    std::mutex turn;
+    std::mutex turn{};
 };
 #else
 inline namespace polling {
@@ -212,7 +356,10 @@ inline void give(cubejobs_lane *it) { cubejobs_lanes_free_lane(it); }
 inline void give(cubejobs_shared_lane *it) { cubejobs_lanes_free_shared(it); }
 inline void give(cubejobs_worker *it) { cubejobs_lanes_free_worker(it); }
 inline void give(cubejobs_shop_lane *it) { cubejobs_dispatch_free_lane(it); }
-inline void give(cubejobs_shop_worker *it) { cubejobs_dispatch_give_back(it), cubejobs_dispatch_free_worker(it); }
+inline void give(cubejobs_shop_worker *it) {
+    cubejobs_dispatch_give_back(it);
+    cubejobs_dispatch_free_worker(it);
+}
 inline cubejobs_submit_answer submit(cubejobs_lane *it, std::uint64_t payload, std::uint32_t dim) {
     return cubejobs_lanes_submit(it, payload, dim);
 }
@@ -253,6 +400,7 @@ template <class Lane> void parking::wake(Lane *lane) {
 template <class Owner> struct common : public parking {
     explicit common(std::uint32_t workers) : parking(workers) {}
     common(const common &) = delete;
+    common &operator=(const common &) = delete;
     ~common() {
         calls::finish(&owner);
         while (calls::rest(&owner).code == CUBEJOBS_DISPATCH_DONE) {}
@@ -265,9 +413,13 @@ template <class Owner> struct common : public parking {
 template <class Handle, class Owner> struct handle_of {
     explicit handle_of(std::shared_ptr<common<Owner>> common) : all(std::move(common)) {}
     handle_of(const handle_of &) = delete;
-    ~handle_of() { calls::give(&at), all->raise(); }
+    handle_of &operator=(const handle_of &) = delete;
+    ~handle_of() {
+        calls::give(&at);
+        all->raise();
+    }
     Handle at = {0, nullptr};
-    unsigned char apart[112];
+    unsigned char apart[112] = {};
     std::shared_ptr<common<Owner>> all;
 #ifdef CUBEJOBS_SLEEPS
     /* Sleeps until the worker has its token, if it lies down. Returns whether to look again. */
@@ -283,7 +435,10 @@ template <class Handle, class Owner> struct handle_of {
 /* A lane of a producer. Submit answers as the call for C does, and wakes a worker for the job. */
 template <class Handle, class Owner> class lane_of {
   public:
+    /* Returns whether it has a handle: not if it was moved from, or could not be given out. */
+    explicit operator bool() const { return mine != nullptr; }
     cubejobs_submit_answer submit(std::uint64_t payload, std::uint32_t dim) {
+        if (!mine) return {CUBEJOBS_DISPATCH_NOT_OPEN, 0};
         cubejobs_submit_answer answer = calls::submit(&mine->at, payload, dim);
         if (answer.code == CUBEJOBS_DISPATCH_DONE) mine->all->wake(&mine->at);
         return answer;
@@ -301,30 +456,40 @@ using shop_lane = lane_of<cubejobs_shop_lane, cubejobs_dispatch>;
 /* A lane that producers share, each with an owner of its own. */
 class shared_lane : public lane_of<cubejobs_shared_lane, cubejobs_lanes> {
   public:
-    explicit shared_lane(lane &&of_one) : shared_lane(of_one.mine->all) {
-        check(cubejobs_lanes_share(&of_one.mine->at, &mine->at));
+    explicit shared_lane(lane &&of_one) : lane_of(nullptr) {
+        if (of_one.mine) mine.reset(new place(of_one.mine->all));
+        opened(mine ? cubejobs_lanes_share(&of_one.mine->at, &mine->at) : CUBEJOBS_DISPATCH_NOT_OPEN);
     }
     /* Returns an owner for another thread. */
     shared_lane share() {
-        shared_lane other(mine->all);
-        check(cubejobs_lanes_share_again(&mine->at, &other.mine->at));
+        shared_lane other;
+        if (mine) other.mine.reset(new place(mine->all));
+        other.opened(mine ? cubejobs_lanes_share_again(&mine->at, &other.mine->at) : CUBEJOBS_DISPATCH_NOT_OPEN);
         return other;
     }
 
   private:
     using place = handle_of<cubejobs_shared_lane, cubejobs_lanes>;
-    explicit shared_lane(std::shared_ptr<common<cubejobs_lanes>> all)
-        : lane_of(std::unique_ptr<place>(new place(std::move(all)))) {}
+    shared_lane() : lane_of(nullptr) {}
+    void opened(cubejobs_dispatch_code code) {
+        if (code) mine.reset();
+        check(code);
+    }
 };
 
 /* A worker of lanes. Its calls answer as those for C do. */
 class worker {
   public:
     /* Takes a job from lane `from` on, if there is one. */
-    cubejobs_job_answer try_next(std::uint32_t from = 0) { return cubejobs_lanes_take_any(&mine->at, from); }
+    cubejobs_job_answer try_next(std::uint32_t from = 0) {
+        return mine ? cubejobs_lanes_take_any(&mine->at, from) : none();
+    }
+    /* Returns whether it has a handle: not if it was moved from, or could not be given out. */
+    explicit operator bool() const { return mine != nullptr; }
 #ifdef CUBEJOBS_SLEEPS
     /* Takes a job, and sleeps until it can. The code is DONE, ENDED or BAD_LANE. */
     cubejobs_find_answer next(std::uint32_t from = 0) {
+        if (!mine) return {CUBEJOBS_DISPATCH_NOT_OPEN, 0, 0, CUBEJOBS_DISPATCH_NO_WORKER, 0, 0, 0};
         for (;;) {
             cubejobs_find_answer answer = cubejobs_lanes_find(&mine->at, from);
             mine->all->unpark(answer.woken);
@@ -336,6 +501,7 @@ class worker {
   private:
     template <class, class, class> friend class owner_of;
     using place = handle_of<cubejobs_worker, cubejobs_lanes>;
+    static cubejobs_job_answer none() { return {CUBEJOBS_DISPATCH_NOT_OPEN, 0, 0, 0, 0, 0}; }
     explicit worker(std::unique_ptr<place> handle) : mine(std::move(handle)) {}
     std::unique_ptr<place> mine;
 };
@@ -373,7 +539,10 @@ class shop_worker {
         none.code = CUBEJOBS_DISPATCH_NOTHING_RUN;
         return none;
     }
-    static void release(shared &worker, place, answer) { cubejobs_dispatch_done(&worker.at), worker.all->raise(); }
+    static void release(shared &worker, place, answer) {
+        cubejobs_dispatch_done(&worker.at);
+        worker.all->raise();
+    }
     explicit shop_worker(std::shared_ptr<shared> handle) : mine(std::move(handle)) {}
     running filled(answer got);
     std::shared_ptr<shared> mine;
@@ -408,7 +577,10 @@ inline running shop_worker::next() {
     for (bool in_turn = false;;) {
         std::unique_lock<std::mutex> turn(all.turn, std::defer_lock);
         std::uint32_t key = 0;
-        if (in_turn) turn.lock(), key = all.key();
+        if (in_turn) {
+            turn.lock();
+            key = all.key();
+        }
         const auto got = cubejobs_dispatch_find(&mine->at);
         if (in_turn) turn.unlock();
         all.unpark(got.woken);
@@ -441,33 +613,57 @@ template <class Owner, class Lane, class Worker> class owner_of {
     ~owner_of() {
         if (all) close();
     }
+    /* Returns why the lanes are not open: DONE if they are, NOT_OPEN if they were moved from. */
+    std::uint32_t code() const { return all ? std::uint32_t{CUBEJOBS_DISPATCH_DONE} : reason; }
     Lane lane() { return got<Lane>(); }
     Worker worker() { return got<Worker>(); }
     /* Closes all lanes, and wakes all workers. They get the jobs that are left. */
     cubejobs_close_answer close() {
+        if (!all) return {CUBEJOBS_DISPATCH_NOT_OPEN, 0};
         cubejobs_close_answer answer = calls::close(&all->owner);
         all->unpark_all();
         return answer;
     }
-    /* Ends closed lanes of which all handles are back. Returns the jobs that are left. If it is not
-     * called, they are dropped with the last handle. */
+    /* Ends closed lanes of which all handles are back, and sets the jobs that are left. If it is not
+     * called, they are dropped with the last handle. Returns the code of cubejobs_lanes_finish. */
+    std::uint32_t finish(std::vector<cubejobs_job_answer> &left) {
+        const std::uint32_t code = all ? calls::finish(&all->owner).code : CUBEJOBS_DISPATCH_NOT_OPEN;
+        left.clear();
+        if (code) return code;
+        for (;;) {
+            left.push_back(calls::rest(&all->owner));
+            if (left.back().code == CUBEJOBS_DISPATCH_DONE) continue;
+            left.pop_back();
+            return code;
+        }
+    }
+#ifdef CUBEJOBS_THROWS
+    /* Does the same, and returns the jobs. */
     std::vector<cubejobs_job_answer> finish() {
-        std::vector<cubejobs_job_answer> left(1);
-        check(calls::finish(&all->owner).code);
-        while ((left.back() = calls::rest(&all->owner)).code == CUBEJOBS_DISPATCH_DONE) left.emplace_back();
-        left.pop_back();
+        std::vector<cubejobs_job_answer> left;
+        check(finish(left));
         return left;
     }
+#endif
 
   protected:
     explicit owner_of(std::uint32_t workers) : all(std::make_shared<common<Owner>>(workers)) {}
+    void opened(std::uint32_t code) {
+        if (code) all.reset();
+        reason = code ? code : std::uint32_t{CUBEJOBS_DISPATCH_NOT_OPEN};
+        check(code);
+    }
     std::shared_ptr<common<Owner>> all;
+    std::uint32_t reason = CUBEJOBS_DISPATCH_NOT_OPEN;
 
   private:
     template <class Made> Made got() {
         using place = typename decltype(Made::mine)::element_type;
-        std::unique_ptr<place> handle(new place(all));
-        check(calls::get(&all->owner, &handle->at));
+        std::unique_ptr<place> handle(all ? new place(all) : nullptr);
+        const std::uint32_t none = CUBEJOBS_DISPATCH_NOT_OPEN;
+        const std::uint32_t code = all ? calls::get(&all->owner, &handle->at) : none;
+        if (code) handle.reset();
+        check(code);
         return Made(std::move(handle));
     }
 };
@@ -476,7 +672,7 @@ template <class Owner, class Lane, class Worker> class owner_of {
 class lanes : public owner_of<cubejobs_lanes, lane, worker> {
   public:
     lanes(std::uint32_t lane_count, std::uint32_t workers, std::uint64_t capacity) : owner_of(workers) {
-        check(cubejobs_lanes_open(&all->owner, lane_count, workers, capacity));
+        opened(cubejobs_lanes_open(&all->owner, lane_count, workers, capacity));
     }
 };
 
@@ -485,12 +681,15 @@ class dispatch : public owner_of<cubejobs_dispatch, shop_lane, shop_worker> {
   public:
     dispatch(std::uint32_t dim, std::uint32_t lane_count, std::uint32_t workers, std::uint64_t capacity)
         : owner_of(workers) {
-        check(cubejobs_dispatch_open(&all->owner, dim, lane_count, workers, capacity));
+        opened(cubejobs_dispatch_open(&all->owner, dim, lane_count, workers, capacity));
     }
 #ifdef CUBEJOBS_SLEEPS
     /* Ends all sleep for a block, from now on: see shop_worker::next. Give such a job back, and
      * close the lanes too. Then soon no worker sleeps. */
-    void stop() { all->is_stopped = true, all->raise(); }
+    void stop() {
+        all->is_stopped = true;
+        all->raise();
+    }
 #endif
 };
 }

@@ -51,11 +51,7 @@
 
 #include <stdint.h>
 
-#if defined(__cplusplus) || (defined(__STDC_VERSION__) && __STDC_VERSION__ >= 199901L)
-#define CUBEJOBS_DISPATCH_INLINE static inline
-#else
-#define CUBEJOBS_DISPATCH_INLINE static __inline__
-#endif
+#include "cubejobs_codes.h"
 
 #ifdef __cplusplus
 extern "C" {
@@ -63,8 +59,8 @@ extern "C" {
 
 /* The version of this header, as a text and as a number: 1.2.3 is 10203. The library returns its
  * own by cubejobs_dispatch_version_number. */
-#define CUBEJOBS_VERSION "0.2.1-dev"
-#define CUBEJOBS_VERSION_NUMBER 201
+#define CUBEJOBS_VERSION "0.3.0-dev"
+#define CUBEJOBS_VERSION_NUMBER 300
 
 /* The most lanes, the most workers, and the most jobs that a lane holds. */
 #define CUBEJOBS_LANES_MAX_LANES 4096
@@ -72,10 +68,10 @@ extern "C" {
 #define CUBEJOBS_LANES_MAX_CAPACITY 1024
 
 /* The version of this header. A library of another version refuses to open lanes. */
-#define CUBEJOBS_DISPATCH_VERSION 2
+#define CUBEJOBS_DISPATCH_VERSION 3
 
 /* The codes that calls return. If several apply, it is the first of those that the comment of the
- * call lists. The library of regions has the other numbers. */
+ * call lists. */
 enum cubejobs_dispatch_code {
     CUBEJOBS_DISPATCH_DONE = 0,           /* The call succeeded. */
     CUBEJOBS_DISPATCH_BAD_DIMENSION = 3,  /* The dimension is above that of the machine. */
@@ -116,6 +112,9 @@ enum cubejobs_dispatch_code {
 
 /* The number that names no worker. */
 #define CUBEJOBS_DISPATCH_NO_WORKER 4294967295u
+
+/* The structs are those of the library only if an enum has 32 bits. */
+typedef char cubejobs_dispatch_code_has_32_bits[sizeof(enum cubejobs_dispatch_code) == 4 ? 1 : -1];
 
 /* The handles. Only the library reads or writes them. */
 struct cubejobs_lanes {
@@ -158,7 +157,7 @@ struct cubejobs_lane_sizes {
 /* The result of a submit: if the code is CUBEJOBS_DISPATCH_DONE, the number of the job in its lane,
  * from 0 on. */
 struct cubejobs_submit_answer {
-    uint32_t code;
+    enum cubejobs_dispatch_code code;
     uint64_t seq;
 };
 
@@ -166,7 +165,7 @@ struct cubejobs_submit_answer {
  *   - left: the number of jobs after it in its lane that the worker knows of. In a rest it is the
  *     number of jobs that are left in all lanes. */
 struct cubejobs_job_answer {
-    uint32_t code;
+    enum cubejobs_dispatch_code code;
     uint32_t lane;
     uint32_t dim;
     uint64_t seq;
@@ -176,21 +175,21 @@ struct cubejobs_job_answer {
 
 /* The result of a look: the number of jobs in the lane that the worker knows of. */
 struct cubejobs_look_answer {
-    uint32_t code;
+    enum cubejobs_dispatch_code code;
     uint64_t jobs;
 };
 
 /* The result of a close: the number of jobs that all lanes have accepted, or 2^64 - 1 if there are
  * more. */
 struct cubejobs_close_answer {
-    uint32_t code;
+    enum cubejobs_dispatch_code code;
     uint64_t accepted;
 };
 
 /* The result of a finish: with CUBEJOBS_DISPATCH_LANE_OUT and CUBEJOBS_DISPATCH_WORKER_OUT the
  * first lane or worker that is not back, else 0. */
 struct cubejobs_finish_answer {
-    uint32_t code;
+    enum cubejobs_dispatch_code code;
     uint32_t number;
 };
 
@@ -199,39 +198,39 @@ struct cubejobs_finish_answer {
  * but find, awake and worker_number. */
 
 /* Does what cubejobs_lanes_open does, which calls it with the version of this header. */
-uint32_t cubejobs_lanes_open_version(struct cubejobs_lanes *owner, uint32_t version, struct cubejobs_lane_sizes sizes);
+CUBEJOBS_NODISCARD enum cubejobs_dispatch_code cubejobs_lanes_open_version(struct cubejobs_lanes *owner,
+                                                                           uint32_t version,
+                                                                           struct cubejobs_lane_sizes sizes);
 
 /* Opens lanes with no job, of which no handle is out. There are 1 to 4,096 lanes and as many
  * workers, and each lane holds 1 to 1,024 jobs. Codes: BAD_VERSION, ALREADY_OPEN, BAD_SIZES,
  * OUT_OF_MEMORY, DONE. */
-CUBEJOBS_DISPATCH_INLINE uint32_t cubejobs_lanes_open(struct cubejobs_lanes *owner, uint32_t lanes, uint32_t workers,
-                                                      uint64_t capacity) {
-    struct cubejobs_lane_sizes sizes;
-    sizes.lanes = lanes;
-    sizes.workers = workers;
-    sizes.capacity = capacity;
-    return cubejobs_lanes_open_version(owner, CUBEJOBS_DISPATCH_VERSION, sizes);
-}
+CUBEJOBS_NODISCARD CUBEJOBS_INLINE enum cubejobs_dispatch_code cubejobs_lanes_open(struct cubejobs_lanes *owner,
+                                                                                   uint32_t lanes, uint32_t workers,
+                                                                                   uint64_t capacity);
 
 /* Gives a producer a handle: that of the first lane which is not out. Codes: ALREADY_OPEN (the
  * lane), NOT_OPEN, OTHER_KIND, FINISHED, NONE_LEFT, OUT_OF_MEMORY, DONE. */
-uint32_t cubejobs_lanes_lane(struct cubejobs_lanes *owner, struct cubejobs_lane *lane);
+CUBEJOBS_NODISCARD enum cubejobs_dispatch_code cubejobs_lanes_lane(struct cubejobs_lanes *owner,
+                                                                   struct cubejobs_lane *lane);
 
 /* Gives a worker a handle: that of the first worker which is not out. Codes: ALREADY_OPEN (the
  * worker), NOT_OPEN, OTHER_KIND, FINISHED, NONE_LEFT, OUT_OF_MEMORY, DONE. */
-uint32_t cubejobs_lanes_worker(struct cubejobs_lanes *owner, struct cubejobs_worker *worker);
+CUBEJOBS_NODISCARD enum cubejobs_dispatch_code cubejobs_lanes_worker(struct cubejobs_lanes *owner,
+                                                                     struct cubejobs_worker *worker);
 
 /* Submits a job. With FULL the lane had `capacity` jobs that were not taken. Codes: NOT_OPEN,
  * OTHER_KIND, CLOSED, SPENT, FULL, DONE. A close that comes during the call may give CLOSED too. */
-struct cubejobs_submit_answer cubejobs_lanes_submit(struct cubejobs_lane *lane, uint64_t payload, uint32_t dim);
+CUBEJOBS_NODISCARD struct cubejobs_submit_answer cubejobs_lanes_submit(struct cubejobs_lane *lane, uint64_t payload,
+                                                                       uint32_t dim);
 
 /* Takes the first job of a lane. With EMPTY and ENDED the lane had none at a moment of the call.
  * Codes: NOT_OPEN, OTHER_KIND, BAD_LANE, EMPTY, ENDED, LOST (another worker took it), DONE. */
-struct cubejobs_job_answer cubejobs_lanes_take(struct cubejobs_worker *worker, uint32_t lane);
+CUBEJOBS_NODISCARD struct cubejobs_job_answer cubejobs_lanes_take(struct cubejobs_worker *worker, uint32_t lane);
 
 /* Goes round all lanes, from lane `from` on, and takes the first job that it can. Codes: NOT_OPEN,
  * OTHER_KIND, BAD_LANE, EMPTY (none, or other workers took it), ENDED (none in any lane), DONE. */
-struct cubejobs_job_answer cubejobs_lanes_take_any(struct cubejobs_worker *worker, uint32_t from);
+CUBEJOBS_NODISCARD struct cubejobs_job_answer cubejobs_lanes_take_any(struct cubejobs_worker *worker, uint32_t from);
 
 /* Looks for a job in a lane, without taking it. Codes: NOT_OPEN, OTHER_KIND, BAD_LANE, EMPTY,
  * ENDED, DONE. */
@@ -242,7 +241,7 @@ struct cubejobs_look_answer cubejobs_lanes_look(struct cubejobs_worker *worker, 
  *   - woken: with each code the number of a worker that was given its token, and whose thread you
  *     wake, or CUBEJOBS_DISPATCH_NO_WORKER. */
 struct cubejobs_find_answer {
-    uint32_t code;
+    enum cubejobs_dispatch_code code;
     uint32_t lane;
     uint32_t dim;
     uint32_t woken;
@@ -254,13 +253,13 @@ struct cubejobs_find_answer {
 /* The result of a wake: if the code is CUBEJOBS_DISPATCH_DONE, the number of the worker that was
  * given its token, and whose thread you wake. */
 struct cubejobs_wake_answer {
-    uint32_t code;
+    enum cubejobs_dispatch_code code;
     uint32_t worker;
 };
 
 /* The number of a worker, from 0 on. */
 struct cubejobs_number_answer {
-    uint32_t code;
+    enum cubejobs_dispatch_code code;
     uint32_t number;
 };
 
@@ -268,11 +267,11 @@ struct cubejobs_number_answer {
  * PARK, park its thread until cubejobs_lanes_awake returns DONE, then call again. With AGAIN, call
  * again. After both the worker lies down: its other calls, but those below, return ASLEEP. After
  * DONE and ENDED it is awake. Codes: NOT_OPEN, OTHER_KIND, BAD_LANE, AGAIN, PARK, ENDED, DONE. */
-struct cubejobs_find_answer cubejobs_lanes_find(struct cubejobs_worker *worker, uint32_t from);
+CUBEJOBS_NODISCARD struct cubejobs_find_answer cubejobs_lanes_find(struct cubejobs_worker *worker, uint32_t from);
 
 /* Takes the token of a worker. With PARK it has none, and its thread parks on. With DONE it is to
  * call cubejobs_lanes_find. Codes: NOT_OPEN, OTHER_KIND, PARK, DONE. */
-uint32_t cubejobs_lanes_awake(struct cubejobs_worker *worker);
+enum cubejobs_dispatch_code cubejobs_lanes_awake(struct cubejobs_worker *worker);
 
 /* Returns the number of a worker, by which others name it. Workers are numbered from 0 on in the
  * order in which they are given out first. Codes: NOT_OPEN, OTHER_KIND, DONE. */
@@ -290,22 +289,24 @@ struct cubejobs_close_answer cubejobs_lanes_close(struct cubejobs_lanes *owner);
 
 /* Gives a producer's lane back, and shuts the handle. It is a call of the producer, and needs no
  * owner. Codes: NOT_OPEN, OTHER_KIND, STILL_SHARED (it never comes), DONE. */
-uint32_t cubejobs_lanes_free_lane(struct cubejobs_lane *lane);
+enum cubejobs_dispatch_code cubejobs_lanes_free_lane(struct cubejobs_lane *lane);
 
 /* Gives a worker back, and shuts the handle. The same codes. */
-uint32_t cubejobs_lanes_free_worker(struct cubejobs_worker *worker);
+enum cubejobs_dispatch_code cubejobs_lanes_free_worker(struct cubejobs_worker *worker);
 
 /* Make a lane that several producers share. The first makes it of a producer's lane, and shuts the
  * producer's handle. The second gives another thread a handle of it. Codes: ALREADY_OPEN (the last
  * argument), NOT_OPEN, OTHER_KIND, OUT_OF_MEMORY, DONE. */
-uint32_t cubejobs_lanes_share(struct cubejobs_lane *lane, struct cubejobs_shared_lane *shared);
-uint32_t cubejobs_lanes_share_again(struct cubejobs_shared_lane *one, struct cubejobs_shared_lane *other);
+CUBEJOBS_NODISCARD enum cubejobs_dispatch_code cubejobs_lanes_share(struct cubejobs_lane *lane,
+                                                                    struct cubejobs_shared_lane *shared);
+CUBEJOBS_NODISCARD enum cubejobs_dispatch_code cubejobs_lanes_share_again(struct cubejobs_shared_lane *one,
+                                                                          struct cubejobs_shared_lane *other);
 
 /* Submits a job to a shared lane. With BUSY another producer is inside: call again. A thread that
  * is stopped inside keeps the others out. Codes: NOT_OPEN, OTHER_KIND, BUSY, CLOSED, SPENT, FULL,
  * DONE. */
-struct cubejobs_submit_answer cubejobs_lanes_submit_shared(struct cubejobs_shared_lane *shared, uint64_t payload,
-                                                           uint32_t dim);
+CUBEJOBS_NODISCARD struct cubejobs_submit_answer cubejobs_lanes_submit_shared(struct cubejobs_shared_lane *shared,
+                                                                              uint64_t payload, uint32_t dim);
 
 /* Does what cubejobs_lanes_wake does, after a submit to a shared lane. With BUSY another producer
  * is inside: call again. Codes: NOT_OPEN, OTHER_KIND, BUSY, NOBODY, AGAIN, DONE. */
@@ -313,7 +314,7 @@ struct cubejobs_wake_answer cubejobs_lanes_wake_shared(struct cubejobs_shared_la
 
 /* Shuts a handle of a shared lane. The last one gives the lane back to its owner. Codes: NOT_OPEN,
  * OTHER_KIND, DONE. */
-uint32_t cubejobs_lanes_free_shared(struct cubejobs_shared_lane *shared);
+enum cubejobs_dispatch_code cubejobs_lanes_free_shared(struct cubejobs_shared_lane *shared);
 
 /* Ends closed lanes, once all lanes and all workers are back. Then the handle has the jobs that no
  * worker took. Codes: NOT_OPEN, OTHER_KIND, FINISHED, NOT_CLOSED, LANE_OUT, WORKER_OUT,
@@ -326,12 +327,12 @@ struct cubejobs_job_answer cubejobs_lanes_rest(struct cubejobs_lanes *owner);
 
 /* Frees ended lanes of which no job is left, and shuts the handle. Codes: NOT_OPEN, OTHER_KIND,
  * NOT_FINISHED, JOB_LEFT, DONE. */
-uint32_t cubejobs_lanes_free(struct cubejobs_lanes *owner);
+enum cubejobs_dispatch_code cubejobs_lanes_free(struct cubejobs_lanes *owner);
 
 /* The result of a call for a worker's job. All is 0 unless the code is CUBEJOBS_DISPATCH_DONE. Then
  * the job runs on the 2^dim processors from base on. */
 struct cubejobs_work_answer {
-    uint32_t code;
+    enum cubejobs_dispatch_code code;
     uint32_t lane;
     uint32_t dim;
     uint64_t base;
@@ -340,14 +341,17 @@ struct cubejobs_work_answer {
 };
 
 /* Does what cubejobs_dispatch_open does, as cubejobs_lanes_open_version does it for lanes. */
-uint32_t cubejobs_dispatch_open_version(struct cubejobs_dispatch *owner, uint32_t version, uint32_t dim,
-                                        struct cubejobs_lane_sizes sizes);
+CUBEJOBS_NODISCARD enum cubejobs_dispatch_code cubejobs_dispatch_open_version(struct cubejobs_dispatch *owner,
+                                                                              uint32_t version, uint32_t dim,
+                                                                              struct cubejobs_lane_sizes sizes);
 
 /* Opens a dispatcher with a machine of dimension `dim`, at most 20, and with lanes as
  * cubejobs_lanes_open does. Codes: BAD_VERSION, ALREADY_OPEN, BAD_DIMENSION, BAD_SIZES,
  * OUT_OF_MEMORY, DONE. */
-CUBEJOBS_DISPATCH_INLINE uint32_t cubejobs_dispatch_open(struct cubejobs_dispatch *owner, uint32_t dim, uint32_t lanes,
-                                                         uint32_t workers, uint64_t capacity) {
+CUBEJOBS_NODISCARD CUBEJOBS_INLINE enum cubejobs_dispatch_code cubejobs_dispatch_open(struct cubejobs_dispatch *owner,
+                                                                                      uint32_t dim, uint32_t lanes,
+                                                                                      uint32_t workers,
+                                                                                      uint64_t capacity) {
     struct cubejobs_lane_sizes sizes;
     sizes.lanes = lanes;
     sizes.workers = workers;
@@ -356,12 +360,14 @@ CUBEJOBS_DISPATCH_INLINE uint32_t cubejobs_dispatch_open(struct cubejobs_dispatc
 }
 
 /* Give a producer or a worker a handle, as cubejobs_lanes_lane and cubejobs_lanes_worker do. */
-uint32_t cubejobs_dispatch_lane(struct cubejobs_dispatch *owner, struct cubejobs_shop_lane *lane);
-uint32_t cubejobs_dispatch_worker(struct cubejobs_dispatch *owner, struct cubejobs_shop_worker *worker);
+CUBEJOBS_NODISCARD enum cubejobs_dispatch_code cubejobs_dispatch_lane(struct cubejobs_dispatch *owner,
+                                                                      struct cubejobs_shop_lane *lane);
+CUBEJOBS_NODISCARD enum cubejobs_dispatch_code cubejobs_dispatch_worker(struct cubejobs_dispatch *owner,
+                                                                        struct cubejobs_shop_worker *worker);
 
 /* Submits a job. Codes: NOT_OPEN, OTHER_KIND, BAD_DIMENSION, CLOSED, SPENT, FULL, DONE. */
-struct cubejobs_submit_answer cubejobs_dispatch_submit(struct cubejobs_shop_lane *lane, uint64_t payload,
-                                                       uint32_t dim);
+CUBEJOBS_NODISCARD struct cubejobs_submit_answer cubejobs_dispatch_submit(struct cubejobs_shop_lane *lane,
+                                                                          uint64_t payload, uint32_t dim);
 
 /* Takes the next job of a worker, or the one that it keeps, with a block. With NO_REGION the worker
  * keeps the job, and the next call tries again. Then call again soon: an older job reserves the
@@ -371,7 +377,7 @@ struct cubejobs_work_answer cubejobs_dispatch_next(struct cubejobs_shop_worker *
 
 /* The same with `woken`, as in struct cubejobs_find_answer. */
 struct cubejobs_work_find_answer {
-    uint32_t code;
+    enum cubejobs_dispatch_code code;
     uint32_t lane;
     uint32_t dim;
     uint32_t woken;
@@ -389,13 +395,13 @@ struct cubejobs_work_find_answer cubejobs_dispatch_find(struct cubejobs_shop_wor
 
 /* Take the token of a worker, return its number, and give a worker its token, as the calls of lanes
  * do. */
-uint32_t cubejobs_dispatch_awake(struct cubejobs_shop_worker *worker);
+enum cubejobs_dispatch_code cubejobs_dispatch_awake(struct cubejobs_shop_worker *worker);
 struct cubejobs_number_answer cubejobs_dispatch_worker_number(struct cubejobs_shop_worker *worker);
 struct cubejobs_wake_answer cubejobs_dispatch_wake(struct cubejobs_shop_lane *lane);
 
 /* Releases the block of the job that a worker runs. Codes: NOT_OPEN, OTHER_KIND, NOTHING_RUN,
  * DONE. */
-uint32_t cubejobs_dispatch_done(struct cubejobs_shop_worker *worker);
+enum cubejobs_dispatch_code cubejobs_dispatch_done(struct cubejobs_shop_worker *worker);
 
 /* Gives back the job that a worker keeps. Its base is 0. Codes: NOT_OPEN, OTHER_KIND, RUNS_JOB,
  * NOTHING_KEPT, DONE. */
@@ -404,79 +410,25 @@ struct cubejobs_work_answer cubejobs_dispatch_give_back(struct cubejobs_shop_wor
 /* Close all lanes, and give a lane or a worker back, as the calls of lanes do. A worker has two
  * codes more, before STILL_SHARED: KEEPS_JOB and RUNS_JOB. */
 struct cubejobs_close_answer cubejobs_dispatch_close(struct cubejobs_dispatch *owner);
-uint32_t cubejobs_dispatch_free_lane(struct cubejobs_shop_lane *lane);
-uint32_t cubejobs_dispatch_free_worker(struct cubejobs_shop_worker *worker);
+enum cubejobs_dispatch_code cubejobs_dispatch_free_lane(struct cubejobs_shop_lane *lane);
+enum cubejobs_dispatch_code cubejobs_dispatch_free_worker(struct cubejobs_shop_worker *worker);
 
 /* End a closed dispatcher, return the jobs that no worker took, and free it, as the calls of lanes
  * do. All lanes and workers must be back. */
 struct cubejobs_finish_answer cubejobs_dispatch_finish(struct cubejobs_dispatch *owner);
 struct cubejobs_job_answer cubejobs_dispatch_rest(struct cubejobs_dispatch *owner);
-uint32_t cubejobs_dispatch_free(struct cubejobs_dispatch *owner);
+enum cubejobs_dispatch_code cubejobs_dispatch_free(struct cubejobs_dispatch *owner);
 
 /* Returns the version of the library: CUBEJOBS_VERSION_NUMBER of the header that it came with. */
 uint32_t cubejobs_dispatch_version_number(void);
 
-/* Returns what a code of this library or of the library of regions means, or that they have no such
- * code. Both headers have this function, with the same text. */
-#ifndef CUBEJOBS_CODE_TEXT
-#define CUBEJOBS_CODE_TEXT
-CUBEJOBS_DISPATCH_INLINE const char *cubejobs_code_text(uint32_t code) {
-    switch (code) {
-    case 0: return "the call succeeded";
-    case 1: return "a part of each block of this dimension was in use";
-    case 2: return "no block was found, and one may be free";
-    case 3: return "the dimension is above that of the machine";
-    case 4: return "no block of this dimension begins at this processor";
-    case 5: return "a part of the block was in use";
-    case 6: return "the handle of the block holds nothing";
-    case 7: return "the handle that is to be filled holds a block";
-    case 8: return "the block is of another machine";
-    case 9: return "the two are not the two halves of a block";
-    case 10: return "a block is held, and this is the last handle";
-    case 11: return "memory ran out";
-    case 12: return "the handle is shut";
-    case 13: return "the handle is of another kind";
-    case 14: return "the handle that is to be opened is open";
-    case 15: return "the header is not of the library's version";
-    case 16: return "the lane has as many jobs as its capacity";
-    case 17: return "the lanes are closed";
-    case 18: return "the lane has accepted 2^62 jobs";
-    case 19: return "there is no job";
-    case 20: return "another worker took the job";
-    case 21: return "there is no job, and none will come";
-    case 22: return "there is no lane with this number";
-    case 23: return "a size of the lanes is out of range";
-    case 24: return "the lanes have ended";
-    case 25: return "the lanes have not ended";
-    case 26: return "the lanes are open";
-    case 27: return "a lane is not back";
-    case 28: return "a worker is not back";
-    case 29: return "all lanes, or all workers, are out";
-    case 31: return "a job is left";
-    case 32: return "another call has not ended";
-    case 33: return "no block was found for the job that the worker keeps";
-    case 34: return "no block was taken, since an older job waits for one";
-    case 35: return "the job that the worker keeps is larger than the machine";
-    case 36: return "the worker runs a job";
-    case 37: return "the worker keeps a job";
-    case 38: return "the worker keeps no job";
-    case 39: return "the worker runs no job";
-    case 40: return "another producer is inside the shared lane";
-    case 41: return "no thread is to be woken";
-    case 42: return "other calls were in the way: call again";
-    case 43: return "there is no job: park the thread";
-    case 44: return "the worker lies down";
-    default: return "the libraries have no such code";
-    }
-}
-#endif
-
 /* The library is not compiled for a sanitizer, so this part informs three of them. ThreadSanitizer
  * and, if CUBEJOBS_HELGRIND is defined, Helgrind do not see the library's atomics. Here a take
- * acquires what the submit of its payload released. Helgrind still reports what passes inside the
- * library: a shared lane, and a handle that comes back during a finish. MemorySanitizer does not
- * see what the library writes. Here each result is initialised. Without these three this part is
- * empty. */
+ * acquires what the submit of its payload released. ThreadSanitizer also sees each call of lanes
+ * write to its handles, so it reports two threads that use one. Helgrind still reports what passes
+ * inside the library: a shared lane, and a handle that comes back during a finish. MemorySanitizer
+ * does not see what the library writes. Here each result is initialised. Without these three this
+ * part is empty. */
 #if defined(__SANITIZE_THREAD__)
 #define CUBEJOBS_DISPATCH_TSAN 1
 #elif defined(__has_feature)
@@ -490,8 +442,10 @@ CUBEJOBS_DISPATCH_INLINE const char *cubejobs_code_text(uint32_t code) {
 #if defined(CUBEJOBS_DISPATCH_TSAN)
 void __tsan_acquire(void *address);
 void __tsan_release(void *address);
+void __tsan_write_range(void *address, long size);
 #define CUBEJOBS_DISPATCH_ACQUIRE(address) __tsan_acquire(address)
 #define CUBEJOBS_DISPATCH_RELEASE(address) __tsan_release(address)
+#define CUBEJOBS_DISPATCH_USE(handle) __tsan_write_range(handle, CUBEJOBS_AS(long, sizeof *(handle)))
 #elif defined(CUBEJOBS_HELGRIND)
 #include <valgrind/helgrind.h>
 #define CUBEJOBS_DISPATCH_ACQUIRE(address) ANNOTATE_HAPPENS_AFTER(address)
@@ -501,60 +455,70 @@ void __msan_unpoison(const volatile void *address, __SIZE_TYPE__ size);
 #endif
 #if defined(CUBEJOBS_DISPATCH_ACQUIRE)
 /* A byte for the payloads of each remainder, the same in all files of a program. */
+extern char cubejobs_lanes_order[4093], cubejobs_dispatch_done_order;
 __attribute__((weak)) char cubejobs_lanes_order[4093];
 __attribute__((weak)) char cubejobs_dispatch_done_order;
 #define CUBEJOBS_DISPATCH_ORDER(payload) (&cubejobs_lanes_order[(payload) % sizeof cubejobs_lanes_order])
 #define CUBEJOBS_DISPATCH_BEFORE(payload) CUBEJOBS_DISPATCH_RELEASE(CUBEJOBS_DISPATCH_ORDER(payload))
-#define CUBEJOBS_DISPATCH_AFTER(answer) \
-    do { \
-        if ((answer).code == CUBEJOBS_DISPATCH_DONE) CUBEJOBS_DISPATCH_ACQUIRE(CUBEJOBS_DISPATCH_ORDER((answer).payload)); \
+#define CUBEJOBS_DISPATCH_AFTER(answer)                                           \
+    do {                                                                          \
+        if ((answer).code == CUBEJOBS_DISPATCH_DONE)                              \
+            CUBEJOBS_DISPATCH_ACQUIRE(CUBEJOBS_DISPATCH_ORDER((answer).payload)); \
     } while (0)
 #elif defined(CUBEJOBS_DISPATCH_WRITES)
 #define CUBEJOBS_DISPATCH_BEFORE(payload) ((void)(payload))
 #define CUBEJOBS_DISPATCH_AFTER(answer) __msan_unpoison(&(answer), sizeof(answer))
 #endif
+#ifndef CUBEJOBS_DISPATCH_USE
+#define CUBEJOBS_DISPATCH_USE(handle) ((void)(handle))
+#endif
 #ifdef CUBEJOBS_DISPATCH_AFTER
-CUBEJOBS_DISPATCH_INLINE struct cubejobs_submit_answer cubejobs_lanes_submit_seen(struct cubejobs_lane *lane,
-                                                                                  uint64_t payload, uint32_t dim) {
+CUBEJOBS_INLINE struct cubejobs_submit_answer cubejobs_lanes_submit_seen(struct cubejobs_lane *lane, uint64_t payload,
+                                                                         uint32_t dim) {
+    CUBEJOBS_DISPATCH_USE(lane);
     CUBEJOBS_DISPATCH_BEFORE(payload);
     return cubejobs_lanes_submit(lane, payload, dim);
 }
 
-CUBEJOBS_DISPATCH_INLINE struct cubejobs_submit_answer cubejobs_lanes_submit_shared_seen(
-    struct cubejobs_shared_lane *shared, uint64_t payload, uint32_t dim) {
+CUBEJOBS_INLINE struct cubejobs_submit_answer cubejobs_lanes_submit_shared_seen(struct cubejobs_shared_lane *shared,
+                                                                                uint64_t payload, uint32_t dim) {
+    CUBEJOBS_DISPATCH_USE(shared);
     CUBEJOBS_DISPATCH_BEFORE(payload);
     return cubejobs_lanes_submit_shared(shared, payload, dim);
 }
 
-CUBEJOBS_DISPATCH_INLINE struct cubejobs_job_answer cubejobs_lanes_take_seen(struct cubejobs_worker *worker,
-                                                                             uint32_t lane) {
-    struct cubejobs_job_answer answer = cubejobs_lanes_take(worker, lane);
+CUBEJOBS_INLINE struct cubejobs_job_answer cubejobs_lanes_take_seen(struct cubejobs_worker *worker, uint32_t lane) {
+    struct cubejobs_job_answer answer;
+    CUBEJOBS_DISPATCH_USE(worker);
+    answer = cubejobs_lanes_take(worker, lane);
     CUBEJOBS_DISPATCH_AFTER(answer);
     return answer;
 }
 
-CUBEJOBS_DISPATCH_INLINE struct cubejobs_job_answer cubejobs_lanes_take_any_seen(struct cubejobs_worker *worker,
-                                                                                 uint32_t from) {
-    struct cubejobs_job_answer answer = cubejobs_lanes_take_any(worker, from);
+CUBEJOBS_INLINE struct cubejobs_job_answer cubejobs_lanes_take_any_seen(struct cubejobs_worker *worker, uint32_t from) {
+    struct cubejobs_job_answer answer;
+    CUBEJOBS_DISPATCH_USE(worker);
+    answer = cubejobs_lanes_take_any(worker, from);
     CUBEJOBS_DISPATCH_AFTER(answer);
     return answer;
 }
 
-CUBEJOBS_DISPATCH_INLINE struct cubejobs_job_answer cubejobs_lanes_rest_seen(struct cubejobs_lanes *owner) {
-    struct cubejobs_job_answer answer = cubejobs_lanes_rest(owner);
+CUBEJOBS_INLINE struct cubejobs_job_answer cubejobs_lanes_rest_seen(struct cubejobs_lanes *owner) {
+    struct cubejobs_job_answer answer;
+    CUBEJOBS_DISPATCH_USE(owner);
+    answer = cubejobs_lanes_rest(owner);
     CUBEJOBS_DISPATCH_AFTER(answer);
     return answer;
 }
 
-CUBEJOBS_DISPATCH_INLINE struct cubejobs_submit_answer cubejobs_dispatch_submit_seen(
-    struct cubejobs_shop_lane *lane, uint64_t payload, uint32_t dim) {
+CUBEJOBS_INLINE struct cubejobs_submit_answer cubejobs_dispatch_submit_seen(struct cubejobs_shop_lane *lane,
+                                                                            uint64_t payload, uint32_t dim) {
     CUBEJOBS_DISPATCH_BEFORE(payload);
     return cubejobs_dispatch_submit(lane, payload, dim);
 }
 
 /* Each job is ordered after each `done` before its `next`, whatever their blocks are. */
-CUBEJOBS_DISPATCH_INLINE struct cubejobs_work_answer cubejobs_dispatch_next_seen(
-    struct cubejobs_shop_worker *worker) {
+CUBEJOBS_INLINE struct cubejobs_work_answer cubejobs_dispatch_next_seen(struct cubejobs_shop_worker *worker) {
     struct cubejobs_work_answer answer = cubejobs_dispatch_next(worker);
     CUBEJOBS_DISPATCH_AFTER(answer);
 #ifdef CUBEJOBS_DISPATCH_ACQUIRE
@@ -563,35 +527,34 @@ CUBEJOBS_DISPATCH_INLINE struct cubejobs_work_answer cubejobs_dispatch_next_seen
     return answer;
 }
 
-CUBEJOBS_DISPATCH_INLINE uint32_t cubejobs_dispatch_done_seen(struct cubejobs_shop_worker *worker) {
+CUBEJOBS_INLINE enum cubejobs_dispatch_code cubejobs_dispatch_done_seen(struct cubejobs_shop_worker *worker) {
 #ifdef CUBEJOBS_DISPATCH_RELEASE
     CUBEJOBS_DISPATCH_RELEASE(&cubejobs_dispatch_done_order);
 #endif
     return cubejobs_dispatch_done(worker);
 }
 
-CUBEJOBS_DISPATCH_INLINE struct cubejobs_work_answer cubejobs_dispatch_give_back_seen(
-    struct cubejobs_shop_worker *worker) {
+CUBEJOBS_INLINE struct cubejobs_work_answer cubejobs_dispatch_give_back_seen(struct cubejobs_shop_worker *worker) {
     struct cubejobs_work_answer answer = cubejobs_dispatch_give_back(worker);
     CUBEJOBS_DISPATCH_AFTER(answer);
     return answer;
 }
 
-CUBEJOBS_DISPATCH_INLINE struct cubejobs_job_answer cubejobs_dispatch_rest_seen(struct cubejobs_dispatch *owner) {
+CUBEJOBS_INLINE struct cubejobs_job_answer cubejobs_dispatch_rest_seen(struct cubejobs_dispatch *owner) {
     struct cubejobs_job_answer answer = cubejobs_dispatch_rest(owner);
     CUBEJOBS_DISPATCH_AFTER(answer);
     return answer;
 }
 
-CUBEJOBS_DISPATCH_INLINE struct cubejobs_find_answer cubejobs_lanes_find_seen(struct cubejobs_worker *worker,
-                                                                              uint32_t from) {
-    struct cubejobs_find_answer answer = cubejobs_lanes_find(worker, from);
+CUBEJOBS_INLINE struct cubejobs_find_answer cubejobs_lanes_find_seen(struct cubejobs_worker *worker, uint32_t from) {
+    struct cubejobs_find_answer answer;
+    CUBEJOBS_DISPATCH_USE(worker);
+    answer = cubejobs_lanes_find(worker, from);
     CUBEJOBS_DISPATCH_AFTER(answer);
     return answer;
 }
 
-CUBEJOBS_DISPATCH_INLINE struct cubejobs_work_find_answer cubejobs_dispatch_find_seen(
-    struct cubejobs_shop_worker *worker) {
+CUBEJOBS_INLINE struct cubejobs_work_find_answer cubejobs_dispatch_find_seen(struct cubejobs_shop_worker *worker) {
     struct cubejobs_work_find_answer answer = cubejobs_dispatch_find(worker);
     CUBEJOBS_DISPATCH_AFTER(answer);
 #ifdef CUBEJOBS_DISPATCH_ACQUIRE
@@ -600,6 +563,61 @@ CUBEJOBS_DISPATCH_INLINE struct cubejobs_work_find_answer cubejobs_dispatch_find
     return answer;
 }
 
+/* A call with one handle, and one with two. */
+#define CUBEJOBS_LANES_ONE(type, call, handle)                        \
+    CUBEJOBS_INLINE type call##_seen(struct cubejobs_##handle *one) { \
+        CUBEJOBS_DISPATCH_USE(one);                                   \
+        return call(one);                                             \
+    }
+#define CUBEJOBS_LANES_TWO(type, call, handle, other)                                               \
+    CUBEJOBS_INLINE type call##_seen(struct cubejobs_##handle *one, struct cubejobs_##other *two) { \
+        CUBEJOBS_DISPATCH_USE(one);                                                                 \
+        CUBEJOBS_DISPATCH_USE(two);                                                                 \
+        return call(one, two);                                                                      \
+    }
+CUBEJOBS_LANES_TWO(enum cubejobs_dispatch_code, cubejobs_lanes_lane, lanes, lane)
+CUBEJOBS_LANES_TWO(enum cubejobs_dispatch_code, cubejobs_lanes_worker, lanes, worker)
+CUBEJOBS_LANES_TWO(enum cubejobs_dispatch_code, cubejobs_lanes_share, lane, shared_lane)
+CUBEJOBS_LANES_TWO(enum cubejobs_dispatch_code, cubejobs_lanes_share_again, shared_lane, shared_lane)
+CUBEJOBS_LANES_ONE(enum cubejobs_dispatch_code, cubejobs_lanes_awake, worker)
+CUBEJOBS_LANES_ONE(struct cubejobs_number_answer, cubejobs_lanes_worker_number, worker)
+CUBEJOBS_LANES_ONE(struct cubejobs_wake_answer, cubejobs_lanes_wake, lane)
+CUBEJOBS_LANES_ONE(struct cubejobs_wake_answer, cubejobs_lanes_wake_shared, shared_lane)
+CUBEJOBS_LANES_ONE(struct cubejobs_close_answer, cubejobs_lanes_close, lanes)
+CUBEJOBS_LANES_ONE(enum cubejobs_dispatch_code, cubejobs_lanes_free_lane, lane)
+CUBEJOBS_LANES_ONE(enum cubejobs_dispatch_code, cubejobs_lanes_free_worker, worker)
+CUBEJOBS_LANES_ONE(enum cubejobs_dispatch_code, cubejobs_lanes_free_shared, shared_lane)
+CUBEJOBS_LANES_ONE(struct cubejobs_finish_answer, cubejobs_lanes_finish, lanes)
+CUBEJOBS_LANES_ONE(enum cubejobs_dispatch_code, cubejobs_lanes_free, lanes)
+
+CUBEJOBS_INLINE enum cubejobs_dispatch_code cubejobs_lanes_open_version_seen(struct cubejobs_lanes *owner,
+                                                                             uint32_t version,
+                                                                             struct cubejobs_lane_sizes sizes) {
+    CUBEJOBS_DISPATCH_USE(owner);
+    return cubejobs_lanes_open_version(owner, version, sizes);
+}
+
+CUBEJOBS_INLINE struct cubejobs_look_answer cubejobs_lanes_look_seen(struct cubejobs_worker *worker, uint32_t lane) {
+    CUBEJOBS_DISPATCH_USE(worker);
+    return cubejobs_lanes_look(worker, lane);
+}
+
+#define cubejobs_lanes_open_version cubejobs_lanes_open_version_seen
+#define cubejobs_lanes_lane cubejobs_lanes_lane_seen
+#define cubejobs_lanes_worker cubejobs_lanes_worker_seen
+#define cubejobs_lanes_share cubejobs_lanes_share_seen
+#define cubejobs_lanes_share_again cubejobs_lanes_share_again_seen
+#define cubejobs_lanes_look cubejobs_lanes_look_seen
+#define cubejobs_lanes_awake cubejobs_lanes_awake_seen
+#define cubejobs_lanes_worker_number cubejobs_lanes_worker_number_seen
+#define cubejobs_lanes_wake cubejobs_lanes_wake_seen
+#define cubejobs_lanes_wake_shared cubejobs_lanes_wake_shared_seen
+#define cubejobs_lanes_close cubejobs_lanes_close_seen
+#define cubejobs_lanes_free_lane cubejobs_lanes_free_lane_seen
+#define cubejobs_lanes_free_worker cubejobs_lanes_free_worker_seen
+#define cubejobs_lanes_free_shared cubejobs_lanes_free_shared_seen
+#define cubejobs_lanes_finish cubejobs_lanes_finish_seen
+#define cubejobs_lanes_free cubejobs_lanes_free_seen
 #define cubejobs_lanes_find cubejobs_lanes_find_seen
 #define cubejobs_dispatch_find cubejobs_dispatch_find_seen
 #define cubejobs_dispatch_give_back cubejobs_dispatch_give_back_seen
@@ -613,6 +631,15 @@ CUBEJOBS_DISPATCH_INLINE struct cubejobs_work_find_answer cubejobs_dispatch_find
 #define cubejobs_lanes_take_any cubejobs_lanes_take_any_seen
 #define cubejobs_lanes_rest cubejobs_lanes_rest_seen
 #endif
+
+CUBEJOBS_INLINE enum cubejobs_dispatch_code cubejobs_lanes_open(struct cubejobs_lanes *owner, uint32_t lanes,
+                                                                uint32_t workers, uint64_t capacity) {
+    struct cubejobs_lane_sizes sizes;
+    sizes.lanes = lanes;
+    sizes.workers = workers;
+    sizes.capacity = capacity;
+    return cubejobs_lanes_open_version(owner, CUBEJOBS_DISPATCH_VERSION, sizes);
+}
 
 #ifdef __cplusplus
 }

@@ -28,20 +28,22 @@
 
 #include <stdint.h>
 
+#include "cubejobs_codes.h"
+
 #ifdef __cplusplus
 extern "C" {
 #endif
 
 /* The version of this header, as a text and as a number: 1.2.3 is 10203. The library returns its
  * own by cubejobs_rounds_version_number. */
-#define CUBEJOBS_VERSION "0.2.1-dev"
-#define CUBEJOBS_VERSION_NUMBER 201
+#define CUBEJOBS_VERSION "0.3.0-dev"
+#define CUBEJOBS_VERSION_NUMBER 300
 
 /* The largest dimension of a collective. */
 #define CUBEJOBS_ROUNDS_MAX_DIM 31
 
 /* The number that names no rank. */
-#define CUBEJOBS_NO_RANK (~(uint64_t)0)
+#define CUBEJOBS_NO_RANK (~CUBEJOBS_AS(uint64_t, 0))
 
 /* The shapes: which messages a collective has. A scan and an exclusive scan have the same. */
 enum cubejobs_shape {
@@ -54,17 +56,20 @@ enum cubejobs_shape {
 /* The codes that calls return. If several apply, it is the first of them. */
 enum cubejobs_rounds_code {
     CUBEJOBS_ROUNDS_DONE = 0,          /* the call succeeded */
-    CUBEJOBS_ROUNDS_BAD_SHAPE = 1,     /* no shape has this number */
-    CUBEJOBS_ROUNDS_BAD_DIMENSION = 2, /* above CUBEJOBS_ROUNDS_MAX_DIM */
-    CUBEJOBS_ROUNDS_BAD_ROOT = 3,      /* not below 2^k */
-    CUBEJOBS_ROUNDS_BAD_RANK = 4,      /* not below 2^k */
-    CUBEJOBS_ROUNDS_BAD_ROUND = 5,     /* not below k */
-    CUBEJOBS_ROUNDS_BAD_NUMBER = 6     /* not below the number of messages */
+    CUBEJOBS_ROUNDS_BAD_DIMENSION = 3, /* above CUBEJOBS_ROUNDS_MAX_DIM */
+    CUBEJOBS_ROUNDS_BAD_SHAPE = 55,    /* no shape has this number */
+    CUBEJOBS_ROUNDS_BAD_ROOT = 56,     /* not below 2^k */
+    CUBEJOBS_ROUNDS_BAD_RANK = 57,     /* not below 2^k */
+    CUBEJOBS_ROUNDS_BAD_ROUND = 58,    /* not below k */
+    CUBEJOBS_ROUNDS_BAD_NUMBER = 59    /* not below the number of messages */
 };
+
+/* The structs are those of the library only if an enum has 32 bits. */
+typedef char cubejobs_rounds_code_has_32_bits[sizeof(enum cubejobs_rounds_code) == 4 ? 1 : -1];
 
 /* The result of cubejobs_message_count. If it is refused, rounds and messages are 0. */
 struct cubejobs_count_answer {
-    uint32_t code;
+    enum cubejobs_rounds_code code;
     uint32_t rounds;
     uint64_t messages;
 };
@@ -72,7 +77,7 @@ struct cubejobs_count_answer {
 /* The result of cubejobs_message: rank `from` sends to rank `to` in this round. If it is refused,
  * the round is 0 and the ranks are CUBEJOBS_NO_RANK. */
 struct cubejobs_message_answer {
-    uint32_t code;
+    enum cubejobs_rounds_code code;
     uint32_t round;
     uint64_t from;
     uint64_t to;
@@ -82,7 +87,7 @@ struct cubejobs_message_answer {
  * from. Each is CUBEJOBS_NO_RANK if there is none, and if the call is refused. If both are ranks,
  * they are the same one: the ranks exchange. */
 struct cubejobs_step_answer {
-    uint32_t code;
+    enum cubejobs_rounds_code code;
     uint64_t to;
     uint64_t from;
 };

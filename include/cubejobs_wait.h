@@ -1,6 +1,7 @@
 /* Threads that sleep until they get what they wait for: C11 and C++11.
  *
- *   - a block of a machine of cubejobs_regions.h: cubejobs_regions_take_or_wait;
+ *   - a block of a machine of cubejobs_regions.h: cubejobs_regions_take_or_wait, and
+ *     cubejobs_regions_take_until with a deadline;
  *   - a job of lanes of cubejobs_dispatch.h: cubejobs_lanes_wait;
  *   - a job of a dispatcher together with its block: cubejobs_dispatch_wait.
  *
@@ -8,11 +9,15 @@
  * and a condition variable (also if CUBEJOBS_EVENT_CONDITION is defined). All functions are inline:
  * they are tested, and no theorem is about them. Link the library of what you use.
  *
+ * No call here is a cancellation point: a thread that is cancelled goes on until its call returns.
+ * To end the waits of an event, stop it (cubejobs_event_stop). A close ends the waits for jobs.
+ *
  * BLOCKS. An event count (struct cubejobs_event) belongs to one machine. A waiter reads its key,
- * then tries a take, then sleeps until the event was raised after the key. Use these two calls
- * alone, and no waiter misses a block that is free:
+ * then tries a take, then sleeps until the event was raised after the key. Use these calls alone,
+ * and no waiter misses a block that is free:
  *
  *   - cubejobs_regions_take_or_wait takes a block, or sleeps until it can;
+ *   - cubejobs_regions_take_until does so until a deadline;
  *   - cubejobs_regions_release_and_raise releases one.
  *
  * Raise the event also after each take of your own has returned: a quick one, an exact one and a
@@ -67,6 +72,7 @@
 #include <pthread.h>
 #include <sched.h>
 #include <stdint.h>
+#include <time.h>
 
 #include "cubejobs_dispatch.h"
 #include "cubejobs_regions.h"
@@ -87,6 +93,7 @@ extern "C" {
  * Bit 0 of the state is set while a thread may sleep, and the other bits count the raises. */
 struct cubejobs_event {
     uint32_t state;
+    uint32_t is_stopped;
     pthread_mutex_t turn;
 #ifndef CUBEJOBS_EVENT_FUTEX
     pthread_mutex_t lock;
@@ -95,13 +102,34 @@ struct cubejobs_event {
 };
 
 #ifdef CUBEJOBS_EVENT_FUTEX
-#define CUBEJOBS_EVENT_INIT {0, PTHREAD_MUTEX_INITIALIZER}
+#define CUBEJOBS_EVENT_INIT {0, 0, PTHREAD_MUTEX_INITIALIZER}
 #ifndef __cplusplus
 long syscall(long number, ...); /* unistd.h has it, but not in strict C11 */
 #endif
 #else
-#define CUBEJOBS_EVENT_INIT {0, PTHREAD_MUTEX_INITIALIZER, PTHREAD_MUTEX_INITIALIZER, PTHREAD_COND_INITIALIZER}
+#define CUBEJOBS_EVENT_INIT {0, 0, PTHREAD_MUTEX_INITIALIZER, PTHREAD_MUTEX_INITIALIZER, PTHREAD_COND_INITIALIZER}
+#if defined(__GLIBC__) && (__GLIBC__ > 2 || __GLIBC_MINOR__ >= 30)
+#define CUBEJOBS_EVENT_CLOCKWAIT 1
+/* pthread.h has it, but not in strict C11. */
+int pthread_cond_clockwait(pthread_cond_t *changed, pthread_mutex_t *lock, int clock, const struct timespec *end);
 #endif
+#endif
+
+#ifdef CLOCK_MONOTONIC
+#define CUBEJOBS_CLOCK CLOCK_MONOTONIC
+#else
+/* Strict C11 hides the clock of Linux. This is its function if a long has all of a time. */
+#define CUBEJOBS_CLOCK 1
+typedef char cubejobs_clock_needs_posix[sizeof(time_t) == sizeof(long) ? 1 : -1];
+int clock_gettime(int clock, struct timespec *now);
+#endif
+
+/* Returns whether a time of CLOCK_MONOTONIC has passed. */
+static inline int cubejobs_has_passed(const struct timespec *deadline) {
+    struct timespec now;
+    clock_gettime(CUBEJOBS_CLOCK, &now);
+    return now.tv_sec > deadline->tv_sec || (now.tv_sec == deadline->tv_sec && now.tv_nsec >= deadline->tv_nsec);
+}
 
 /* Returns the key of now. Read it before the take that is to be made. */
 static inline uint32_t cubejobs_event_key(struct cubejobs_event *event) {
@@ -124,41 +152,139 @@ static inline void cubejobs_event_raise(struct cubejobs_event *event) {
 #endif
 }
 
-/* Sleeps until the event is raised, or returns at once if it was raised after this key was read. */
-static inline void cubejobs_event_wait(struct cubejobs_event *event, uint32_t key) {
-#ifdef CUBEJOBS_EVENT_FUTEX
-    while (__atomic_load_n(&event->state, __ATOMIC_SEQ_CST) == key)
-        syscall(SYS_futex, &event->state, FUTEX_WAIT_PRIVATE, key, 0, 0, 0);
-#else
-    pthread_mutex_lock(&event->lock);
-    while (__atomic_load_n(&event->state, __ATOMIC_SEQ_CST) == key) pthread_cond_wait(&event->changed, &event->lock);
-    pthread_mutex_unlock(&event->lock);
-#endif
+/* Ends all waits of the event, those of now and of later. Each call that waits for this event then
+ * returns STOPPED, and takes nothing. A call that has its block already returns it. An event is
+ * stopped for ever, and may be stopped again. Any thread may do so. */
+static inline void cubejobs_event_stop(struct cubejobs_event *event) {
+    __atomic_store_n(&event->is_stopped, 1, __ATOMIC_SEQ_CST);
+    cubejobs_event_raise(event);
 }
 
-/* Takes a block of dimension `k`, and sleeps until it can. The code is that of
- * cubejobs_regions_take_exact, but neither NO_ROOM nor NOT_NOW. */
-static inline struct cubejobs_regions_answer cubejobs_regions_take_or_wait(struct cubejobs_regions *thread,
-                                                                           struct cubejobs_block *block, uint32_t k,
-                                                                           struct cubejobs_event *event) {
-    struct cubejobs_regions_answer answer = cubejobs_regions_take(thread, block, k);
-    cubejobs_event_raise(event);
-    while (answer.code == CUBEJOBS_REGIONS_NOT_NOW || answer.code == CUBEJOBS_REGIONS_NO_ROOM) {
-        uint32_t key;
-        pthread_mutex_lock(&event->turn);
-        key = cubejobs_event_key(event);
-        answer = cubejobs_regions_take_exact(thread, block, k);
-        pthread_mutex_unlock(&event->turn);
-        if (answer.code == CUBEJOBS_REGIONS_NO_ROOM) cubejobs_event_wait(event, key);
-        if (answer.code == CUBEJOBS_REGIONS_NOT_NOW) sched_yield();
+/* Returns whether the event was stopped. */
+static inline int cubejobs_event_is_stopped(struct cubejobs_event *event) {
+    return __atomic_load_n(&event->is_stopped, __ATOMIC_SEQ_CST) != 0;
+}
+
+/* Sleeps once until a change, or until a deadline if there is one. It may return without cause. The
+ * deadline is of CLOCK_MONOTONIC, and has not passed. */
+#ifdef CUBEJOBS_EVENT_FUTEX
+static inline void cubejobs_event_sleep(struct cubejobs_event *event, uint32_t key, const struct timespec *deadline) {
+#ifdef SYS_futex_time64
+    long number = sizeof deadline->tv_sec > sizeof(long) ? SYS_futex_time64 : SYS_futex;
+#else
+    long number = SYS_futex;
+#endif
+    syscall(number, &event->state, FUTEX_WAIT_BITSET_PRIVATE, key, deadline, 0, FUTEX_BITSET_MATCH_ANY);
+}
+#else
+static inline void cubejobs_event_sleep(struct cubejobs_event *event, const struct timespec *deadline) {
+    if (!deadline) {
+        pthread_cond_wait(&event->changed, &event->lock);
+        return;
     }
+#ifdef CUBEJOBS_EVENT_CLOCKWAIT
+    pthread_cond_clockwait(&event->changed, &event->lock, CUBEJOBS_CLOCK, deadline);
+#else
+    {
+        /* Without a wait by this clock, it looks at it each 10 ms. */
+        struct timespec end;
+        clock_gettime(CLOCK_REALTIME, &end);
+        end.tv_nsec += 10000000;
+        end.tv_sec += end.tv_nsec / 1000000000;
+        end.tv_nsec %= 1000000000;
+        pthread_cond_timedwait(&event->changed, &event->lock, &end);
+    }
+#endif
+}
+#endif
+
+/* Sleeps until the event is raised, or until a deadline of CLOCK_MONOTONIC if it is not null.
+ * Returns at once if it was raised after this key was read. Returns whether the deadline passed
+ * before. */
+static inline int cubejobs_event_wait_until(struct cubejobs_event *event, uint32_t key,
+                                            const struct timespec *deadline) {
+    int is_late = 0;
+#ifdef CUBEJOBS_EVENT_FUTEX
+    while (!is_late && __atomic_load_n(&event->state, __ATOMIC_SEQ_CST) == key) {
+        is_late = deadline && cubejobs_has_passed(deadline);
+        if (!is_late) cubejobs_event_sleep(event, key, deadline);
+    }
+#else
+    int before;
+    pthread_setcancelstate(PTHREAD_CANCEL_DISABLE, &before);
+    pthread_mutex_lock(&event->lock);
+    while (!is_late && __atomic_load_n(&event->state, __ATOMIC_SEQ_CST) == key) {
+        is_late = deadline && cubejobs_has_passed(deadline);
+        if (!is_late) cubejobs_event_sleep(event, deadline);
+    }
+    pthread_mutex_unlock(&event->lock);
+    pthread_setcancelstate(before, &before);
+#endif
+    return is_late;
+}
+
+/* Does what cubejobs_event_wait_until does without a deadline. */
+static inline void cubejobs_event_wait(struct cubejobs_event *event, uint32_t key) {
+    cubejobs_event_wait_until(event, key, 0);
+}
+
+/* Returns the answer of a take that took nothing, with this code. */
+static inline struct cubejobs_regions_answer cubejobs_regions_refusal(enum cubejobs_regions_code code) {
+    struct cubejobs_regions_answer answer = {0, 0, 0, 0};
+    answer.code = CUBEJOBS_AS(uint16_t, code);
     return answer;
 }
 
+/* Makes an exact take as the only waiter that does, unless the event was stopped. Sets the key from
+ * before. A stop raises the event after it is noted, so a waiter with this key misses none. */
+static inline struct cubejobs_regions_answer cubejobs_regions_take_in_turn(struct cubejobs_regions *thread,
+                                                                           struct cubejobs_block *block, uint32_t k,
+                                                                           struct cubejobs_event *event,
+                                                                           uint32_t *key) {
+    struct cubejobs_regions_answer answer = cubejobs_regions_refusal(CUBEJOBS_REGIONS_STOPPED);
+    pthread_mutex_lock(&event->turn);
+    *key = cubejobs_event_key(event);
+    if (!cubejobs_event_is_stopped(event)) answer = cubejobs_regions_take_exact(thread, block, k);
+    pthread_mutex_unlock(&event->turn);
+    return answer;
+}
+
+/* Takes a block of dimension `k`, and sleeps until it can, or until `deadline`, a time of
+ * CLOCK_MONOTONIC, has passed. It makes an exact take even if that has passed before. Null is no
+ * deadline. A tv_nsec is 0 to 999,999,999. The code is TIMED_OUT, STOPPED (cubejobs_event_stop), or
+ * that of cubejobs_regions_take_exact, but neither NO_ROOM nor NOT_NOW. */
+CUBEJOBS_NODISCARD static inline struct cubejobs_regions_answer cubejobs_regions_take_until(
+    struct cubejobs_regions *thread, struct cubejobs_block *block, uint32_t k, struct cubejobs_event *event,
+    const struct timespec *deadline) {
+    struct cubejobs_regions_answer answer;
+    uint32_t key;
+    int is_late = 0;
+    if (cubejobs_event_is_stopped(event)) return cubejobs_regions_refusal(CUBEJOBS_REGIONS_STOPPED);
+    answer = cubejobs_regions_take(thread, block, k);
+    cubejobs_event_raise(event);
+    while (!is_late && (answer.code == CUBEJOBS_REGIONS_NOT_NOW || answer.code == CUBEJOBS_REGIONS_NO_ROOM)) {
+        answer = cubejobs_regions_take_in_turn(thread, block, k, event, &key);
+        if (answer.code == CUBEJOBS_REGIONS_NO_ROOM) {
+            is_late = cubejobs_event_wait_until(event, key, deadline);
+        } else if (answer.code == CUBEJOBS_REGIONS_NOT_NOW) {
+            is_late = deadline && cubejobs_has_passed(deadline);
+            sched_yield();
+        }
+    }
+    return is_late ? cubejobs_regions_refusal(CUBEJOBS_REGIONS_TIMED_OUT) : answer;
+}
+
+/* Takes a block as cubejobs_regions_take_until does, without a deadline. */
+CUBEJOBS_NODISCARD static inline struct cubejobs_regions_answer cubejobs_regions_take_or_wait(
+    struct cubejobs_regions *thread, struct cubejobs_block *block, uint32_t k, struct cubejobs_event *event) {
+    return cubejobs_regions_take_until(thread, block, k, event, 0);
+}
+
 /* Releases a block as cubejobs_regions_release does, and raises the event. */
-static inline uint32_t cubejobs_regions_release_and_raise(struct cubejobs_regions *thread, struct cubejobs_block *block,
-                                                          struct cubejobs_event *event) {
-    uint32_t code = cubejobs_regions_release(thread, block);
+static inline enum cubejobs_regions_code cubejobs_regions_release_and_raise(struct cubejobs_regions *thread,
+                                                                            struct cubejobs_block *block,
+                                                                            struct cubejobs_event *event) {
+    enum cubejobs_regions_code code = cubejobs_regions_release(thread, block);
     cubejobs_event_raise(event);
     return code;
 }
@@ -195,10 +321,12 @@ static inline void cubejobs_park(struct cubejobs_parking *parking, uint32_t work
 #ifdef CUBEJOBS_EVENT_FUTEX
     while (__atomic_load_n(word, __ATOMIC_SEQ_CST) == 0) syscall(SYS_futex, word, FUTEX_WAIT_PRIVATE, 0, 0, 0, 0);
 #else
+    int before;
+    pthread_setcancelstate(PTHREAD_CANCEL_DISABLE, &before);
     pthread_mutex_lock(&parking->room.lock);
-    while (__atomic_load_n(word, __ATOMIC_SEQ_CST) == 0)
-        pthread_cond_wait(&parking->room.changed, &parking->room.lock);
+    while (__atomic_load_n(word, __ATOMIC_SEQ_CST) == 0) pthread_cond_wait(&parking->room.changed, &parking->room.lock);
     pthread_mutex_unlock(&parking->room.lock);
+    pthread_setcancelstate(before, &before);
 #endif
     __atomic_store_n(word, 0, __ATOMIC_SEQ_CST);
 }
@@ -209,9 +337,8 @@ static inline void cubejobs_unpark_all(struct cubejobs_parking *parking) {
 }
 
 /* Submits a job as cubejobs_lanes_submit does, and wakes a worker for it if one is to wake. */
-static inline struct cubejobs_submit_answer cubejobs_lanes_submit_and_wake(struct cubejobs_lane *lane, uint64_t payload,
-                                                                           uint32_t dim,
-                                                                           struct cubejobs_parking *parking) {
+CUBEJOBS_NODISCARD static inline struct cubejobs_submit_answer cubejobs_lanes_submit_and_wake(
+    struct cubejobs_lane *lane, uint64_t payload, uint32_t dim, struct cubejobs_parking *parking) {
     struct cubejobs_submit_answer answer = cubejobs_lanes_submit(lane, payload, dim);
     struct cubejobs_wake_answer wake = {CUBEJOBS_DISPATCH_AGAIN, 0};
     if (answer.code != CUBEJOBS_DISPATCH_DONE) return answer;
@@ -221,9 +348,8 @@ static inline struct cubejobs_submit_answer cubejobs_lanes_submit_and_wake(struc
 }
 
 /* Does the same with a shared lane, as cubejobs_lanes_submit_shared does. */
-static inline struct cubejobs_submit_answer cubejobs_lanes_submit_shared_and_wake(struct cubejobs_shared_lane *lane,
-                                                                                  uint64_t payload, uint32_t dim,
-                                                                                  struct cubejobs_parking *parking) {
+CUBEJOBS_NODISCARD static inline struct cubejobs_submit_answer cubejobs_lanes_submit_shared_and_wake(
+    struct cubejobs_shared_lane *lane, uint64_t payload, uint32_t dim, struct cubejobs_parking *parking) {
     struct cubejobs_submit_answer answer = cubejobs_lanes_submit_shared(lane, payload, dim);
     struct cubejobs_wake_answer wake = {CUBEJOBS_DISPATCH_AGAIN, 0};
     if (answer.code != CUBEJOBS_DISPATCH_DONE) return answer;
@@ -235,8 +361,9 @@ static inline struct cubejobs_submit_answer cubejobs_lanes_submit_shared_and_wak
 
 /* Takes a job, from lane `from` on, and sleeps until it can. The code is DONE, ENDED if no job will
  * come, or NOT_OPEN, OTHER_KIND or BAD_LANE. */
-static inline struct cubejobs_find_answer cubejobs_lanes_wait(struct cubejobs_worker *worker, uint32_t from,
-                                                              struct cubejobs_parking *parking) {
+CUBEJOBS_NODISCARD static inline struct cubejobs_find_answer cubejobs_lanes_wait(struct cubejobs_worker *worker,
+                                                                                 uint32_t from,
+                                                                                 struct cubejobs_parking *parking) {
     uint32_t number = cubejobs_lanes_worker_number(worker).number;
     for (;;) {
         struct cubejobs_find_answer answer = cubejobs_lanes_find(worker, from);
@@ -260,9 +387,8 @@ static inline struct cubejobs_close_answer cubejobs_lanes_close_and_wake(struct 
 }
 
 /* Submits a job as cubejobs_dispatch_submit does, and wakes a worker for it if one is to wake. */
-static inline struct cubejobs_submit_answer cubejobs_dispatch_submit_and_wake(struct cubejobs_shop_lane *lane,
-                                                                              uint64_t payload, uint32_t dim,
-                                                                              struct cubejobs_parking *parking) {
+CUBEJOBS_NODISCARD static inline struct cubejobs_submit_answer cubejobs_dispatch_submit_and_wake(
+    struct cubejobs_shop_lane *lane, uint64_t payload, uint32_t dim, struct cubejobs_parking *parking) {
     struct cubejobs_submit_answer answer = cubejobs_dispatch_submit(lane, payload, dim);
     struct cubejobs_wake_answer wake = {CUBEJOBS_DISPATCH_AGAIN, 0};
     if (answer.code != CUBEJOBS_DISPATCH_DONE) return answer;
@@ -272,7 +398,7 @@ static inline struct cubejobs_submit_answer cubejobs_dispatch_submit_and_wake(st
 }
 
 /* Returns whether the code is that of a look which found no block, or may not look for one. */
-static inline int cubejobs_has_no_block(uint32_t code) {
+static inline int cubejobs_has_no_block(enum cubejobs_dispatch_code code) {
     return code == CUBEJOBS_DISPATCH_NO_REGION || code == CUBEJOBS_DISPATCH_OLDER_JOB;
 }
 
@@ -291,8 +417,12 @@ static inline struct cubejobs_work_answer cubejobs_dispatch_look(struct cubejobs
     cubejobs_unpark(parking, found.woken);
     if (found.code == CUBEJOBS_DISPATCH_DONE || (!in_turn && cubejobs_has_no_block(found.code)))
         cubejobs_event_raise(&parking->room);
-    answer.code = found.code, answer.lane = found.lane, answer.dim = found.dim;
-    answer.base = found.base, answer.seq = found.seq, answer.payload = found.payload;
+    answer.code = found.code;
+    answer.lane = found.lane;
+    answer.dim = found.dim;
+    answer.base = found.base;
+    answer.seq = found.seq;
+    answer.payload = found.payload;
     return answer;
 }
 
@@ -323,9 +453,9 @@ static inline struct cubejobs_work_answer cubejobs_dispatch_wait(struct cubejobs
 
 /* Releases the block of the job that a worker runs, as cubejobs_dispatch_done does, and raises
  * `room`. */
-static inline uint32_t cubejobs_dispatch_done_and_raise(struct cubejobs_shop_worker *worker,
-                                                        struct cubejobs_parking *parking) {
-    uint32_t code = cubejobs_dispatch_done(worker);
+static inline enum cubejobs_dispatch_code cubejobs_dispatch_done_and_raise(struct cubejobs_shop_worker *worker,
+                                                                           struct cubejobs_parking *parking) {
+    enum cubejobs_dispatch_code code = cubejobs_dispatch_done(worker);
     cubejobs_event_raise(&parking->room);
     return code;
 }

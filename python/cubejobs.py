@@ -26,7 +26,7 @@ import threading
 from types import TracebackType
 from typing import List, NamedTuple, Optional, Type
 
-__version__ = "0.2.1-dev"
+__version__ = "0.3.0-dev"
 __all__ = ["Block", "FirstFit", "MAX_DIM", "NoRoom", "NotHeld", "Occupancy", "Region", "Regions", "StillHeld"]
 
 MAX_DIM = 20
@@ -107,7 +107,7 @@ _FIT_CALLS = {
     "version_number": (_U32, []),
 }
 # The version of the header of the lock-free library, CUBEJOBS_REGIONS_VERSION.
-_REGIONS_VERSION = 2
+_REGIONS_VERSION = 3
 _DONE = 0
 
 

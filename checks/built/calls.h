@@ -51,7 +51,7 @@ static inline uint64_t model_free_regions(unsigned k) {
     return count;
 }
 
-static inline unsigned model_bad(uint64_t base, unsigned k) {
+static inline enum cubejobs_code model_bad(uint64_t base, unsigned k) {
     if (k > dim) return CUBEJOBS_BAD_DIMENSION;
     return base % (1u << k) || base >= 1u << dim ? CUBEJOBS_BAD_BASE : CUBEJOBS_DONE;
 }

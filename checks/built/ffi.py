@@ -23,7 +23,7 @@ import subprocess
 import tempfile
 from typing import NamedTuple, Sequence
 
-from checks.built import archive, batch, pinjobs, preload, static, wait_faults
+from checks.built import archive, batch, misuse, pinjobs, preload, static, wait_faults
 from checks.lib import erase
 from checks.lib.repository import files_below, path, read
 from checks.lib.rows import Row, Skipped, answer, must, put, run_rows
@@ -115,6 +115,8 @@ CALLS = "checks/built/{}_calls.c".format
 HELGRIND = ["valgrind", "--tool=helgrind", "--quiet", "--error-exitcode=9"]
 MARKED = ["-DCUBEJOBS_HELGRIND"]
 CONDITION = "-DCUBEJOBS_EVENT_CONDITION"
+# The file with the checks of handles, beside a program.
+CHECKER = ["-xc", misuse.CHECKER, "-xnone"]
 OWN_MALLOC = ["-Wl,--wrap=malloc,--wrap=free"]
 WRAPPED = ",".join(f"--wrap=cubejobs_regions_{it}" for it in ("take", "release", "free", "split"))
 # What is wrong with a library, and what the calls say then.
@@ -157,6 +159,11 @@ def programs_of_regions(longer, seconds):
         yield Program(CALLS("regions"), [REGIONS], compiler, words=[str(pairs)], placed=placed)
         yield Program(CALLS("wait"), [REGIONS], compiler, words=[str(turns * longer)], placed=placed)
     yield Program(CALLS("wait"), [REGIONS], [*C, CONDITION], words=["5000"])
+    for compiler in (CHECKED, [*C, CONDITION], CXX, [*CHECKED, misuse.CHECK]):
+        flags = CHECKER if misuse.CHECK in compiler else ()
+        yield Program(CALLS("deadline"), [REGIONS], compiler, flags, [str(625 * longer)])
+    yield Program(CALLS("deadline"), [REGIONS], RACES, words=[str(100 * longer)], placed=PLACED)
+    yield Program(CALLS("check"), [REGIONS], [*C, misuse.CHECK], CHECKER, [str(min(100_000 * longer, 1_000_000))])
     yield Program("checks/built/regions_memory.c", [REGIONS], C, OWN_MALLOC)
     yield Program("checks/built/regions_fork.c", [REGIONS], CHECKED, OWN_MALLOC, [str(100_000 * longer)])
     for name in ("regions", "arena", "wait"):
@@ -205,11 +212,16 @@ def rows_of_waits(room):
     """Yields the headers with a fault, which the programs must see."""
     for number, (name, what, old, new, said) in enumerate(wait_faults.OF_THE_HEADER):
         unlike(room, f"fault{number}", "cubejobs_wait.h", old, new)
-        library, words = REGIONS if "wait" in name else DISPATCH, ["2000"] if "calls" in name else []
+        library = DISPATCH if name in ("look_order", "sleep_calls") else REGIONS
+        words = ["2000"] if name in ("sleep_calls", "wait_calls") else []
         shim = wait_faults.shim(6) if name == "sleep_calls" else ()
         compiler, flags = [*C, f"-I{room}/fault{number}"], ["-DPATIENCE=3", *shim]
         program = Program(f"checks/built/{name}.c", [library], compiler, flags, words)
         yield Row(what, must_be_seen, (room, program, said))
+    unlike(room, "cancelled", "cubejobs_wait.h", *wait_faults.CANCELLED)
+    compiler = [*C, CONDITION, f"-I{room}/cancelled"]
+    program = Program(CALLS("deadline"), [REGIONS], compiler, ["-DPATIENCE=3"], ["1"])
+    yield Row("a thread that ends inside a wait", must_be_seen, (room, program, wait_faults.LOST))
     for number, (what, old, new) in enumerate(wait_faults.OF_OWNERS):
         unlike(room, f"owners{number}", "cubejobs.hpp", old, new)
         compiler, flags = [*CXX_20, f"-I{room}/owners{number}"], ["-DOWNERS", "-DPATIENCE=3"]
@@ -226,6 +238,8 @@ def rows_of_owners(room, longer):
         placed, name = PLACED if compiler is RACES_20 else (), "checks/built/owners_calls.cpp"
         program = Program(name, [REGIONS, EXACT, DISPATCH], [*compiler, MOVES], placed=placed)
         yield Row(" ".join([name, "by", *placed, *compiler]), must_run, (room, program))
+        program = Program("checks/built/owners_codes.cpp", program.libraries, [*compiler, "-fno-exceptions"], placed=placed)
+        yield Row(" ".join([program.source, "by", *placed, *program.compiler]), must_run, (room, program))
         program = Program("examples/jobs.cpp", [DISPATCH], compiler, placed=placed, shown="examples/jobs.out")
         yield Row(" ".join([program.source, "by", *placed, *compiler]), must_run, (room, program))
     for compiler, jobs in ((CHECKED, 5000), (RACES, 500), (CLANG, 1000), (CXX, 20_000), ([*C, CONDITION], 5000)):
@@ -303,6 +317,7 @@ def rows(room, longer, seconds):
     yield from rows_of_crowds(room, longer, seconds)
     yield from rows_of_waits(room)
     yield from rows_of_owners(room, longer)
+    yield from misuse.rows(room, f"{room}/lib{REGIONS}.a", f"{room}/lib{DISPATCH}.a")
     for compiler in (CHECKED, [*CLANG[:2], "-xc"]):
         program = Program("examples/pinjobs.c", [EXACT], compiler)
         yield Row(f"{program.source} by {' '.join(compiler)}", pinjobs.must_work, (room, program))
@@ -369,4 +384,5 @@ def main(words):
             os.mkdir(f"{room}/source")
             build_sources(f"{room}/source")
             wanted += rows_of_sources(prepared(f"{room}/source"), longer, seconds, not is_source and not is_long)
+            wanted.append(Row("a crash inside plain Rust", misuse.crash_has_its_frames, (f"{room}/source",)))
         return run_rows("ffi", [row for row in wanted if only in row.name], says_ok=True)

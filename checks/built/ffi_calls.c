@@ -17,12 +17,12 @@ static struct cubejobs_machine *const machine = &memory.machine;
 // The model: what each station holds. A station's number among the holders is one more than its own.
 static struct cubejobs_answer held[CUBEJOBS_MAX_STATIONS];
 
-static struct cubejobs_answer answer(uint32_t code, uint32_t k, uint64_t base) {
+static struct cubejobs_answer answer(enum cubejobs_code code, uint32_t k, uint64_t base) {
     struct cubejobs_answer made = {code, k, base};
     return made;
 }
 
-static struct cubejobs_answer refused(uint32_t code) { return answer(code, 0, 0); }
+static struct cubejobs_answer refused(enum cubejobs_code code) { return answer(code, 0, 0); }
 
 #define expect_same(got, wanted, what) expect_as(__LINE__, (got), (wanted), (what))
 static void expect_as(int line, struct cubejobs_answer got, struct cubejobs_answer wanted, const char *what) {

@@ -2,32 +2,78 @@
 
 Each header stands alone, and all stand together in either order, under gcc and clang, and the sanitizers of which a
 header knows. Some begin with a later standard. A struct of a header has a name that C++ can say. A line names each
-compiler that is not there and each standard that it does not know. Headers with a fault must be refused. `checks/run
-headers FOLDER` takes other headers.
+compiler that is not there and each standard that it does not know. Headers with a fault must be refused. So must a call
+whose result is ignored, and a switch without one of the codes. `checks/run headers FOLDER` takes other headers.
 """
 import itertools
 import os
 import re
 import shutil
 import tempfile
+from typing import NamedTuple
 
 from checks.lib.repository import path, read, write
 from checks.lib.rows import Row, Skipped, answer, must, run_rows
 
-NAMES = ("cubejobs.h", "cubejobs_dispatch.h", "cubejobs_regions.h", "cubejobs_rounds.h")
+NAMES = ("cubejobs.h", "cubejobs_codes.h", "cubejobs_dispatch.h", "cubejobs_regions.h", "cubejobs_rounds.h")
 # Headers that begin with a later standard, and those in which they have no part.
 LATER = {"cubejobs_wait.h": ("c89", "c99", "c++98"), "cubejobs.hpp": ("c89", "c99", "c11", "c17", "c2x", "c++98")}
 NOWHERE = ["-o", "/dev/null"]
 WARNINGS = ["-Werror", "-Wall", "-Wextra", "-pedantic", "-Wconversion", "-Wshadow"]
+MORE = {"gcc": [], "clang": ["-Wcomma", "-Wmissing-variable-declarations"], "g++": ["-Weffc++", "-Wold-style-cast"],
+        "clang++": ["-Wcomma", "-Wmissing-variable-declarations", "-Wold-style-cast"]}
+CHECKED = "-DCUBEJOBS_CHECK"
 # Each compiler with its language, and the standards from the oldest to the newest.
 C = ("c89", "c99", "c11", "c17", "c2x")
 CXX = ("c++98", "c++11", "c++14", "c++17", "c++20", "c++2b")
 COMPILERS = {"gcc": ("c", C), "clang": ("c", C), "g++": ("c++", CXX), "clang++": ("c++", CXX)}
 SANITIZERS = {"gcc": ("thread",), "g++": ("thread",), "clang": ("thread", "memory"), "clang++": ("thread", "memory")}
+
+
+class Call(NamedTuple):
+    """A call whose result must not be ignored: its header, the handles, the call, and how its code is read."""
+
+    header: str
+    handles: str
+    words: str
+    code: str = ""
+
+
+REGIONS, LANES = "cubejobs_regions.h", "cubejobs_dispatch.h"
+OF_REGIONS = "struct cubejobs_regions one, other; static struct cubejobs_block block, half; (void)&other; (void)&half; (void)&block"
+OF_LANES = "struct cubejobs_lanes lanes; static struct cubejobs_lane lane; static struct cubejobs_worker worker; static struct "
+OF_LANES += "cubejobs_shared_lane shared, more; (void)&lanes; (void)&lane; (void)&worker; (void)&shared; (void)&more"
+CALLS = (
+    Call(REGIONS, OF_REGIONS, "cubejobs_regions_open(&one, 3)"),
+    Call(REGIONS, OF_REGIONS, "cubejobs_regions_share(&one, &other)"),
+    Call(REGIONS, OF_REGIONS, "cubejobs_regions_take(&one, &block, 1)", ".code"),
+    Call(REGIONS, OF_REGIONS, "cubejobs_regions_take_exact(&one, &block, 1)", ".code"),
+    Call(REGIONS, OF_REGIONS, "cubejobs_regions_take_at(&one, &block, 2, 1)", ".code"),
+    Call(REGIONS, OF_REGIONS, "cubejobs_regions_split(&one, &block, &half)"),
+    Call(REGIONS, OF_REGIONS, "cubejobs_regions_join(&one, &block, &half)"),
+    Call(LANES, OF_LANES, "cubejobs_lanes_open(&lanes, 1, 1, 1)"),
+    Call(LANES, OF_LANES, "cubejobs_lanes_lane(&lanes, &lane)"),
+    Call(LANES, OF_LANES, "cubejobs_lanes_worker(&lanes, &worker)"),
+    Call(LANES, OF_LANES, "cubejobs_lanes_share(&lane, &shared)"),
+    Call(LANES, OF_LANES, "cubejobs_lanes_share_again(&shared, &more)"),
+    Call(LANES, OF_LANES, "cubejobs_lanes_submit(&lane, 1, 0)", ".code"),
+    Call(LANES, OF_LANES, "cubejobs_lanes_submit_shared(&shared, 1, 0)", ".code"),
+    Call(LANES, OF_LANES, "cubejobs_lanes_take_any(&worker, 0)", ".code"),
+    Call("cubejobs.h", "struct cubejobs_fit fit; (void)&fit", "cubejobs_fit_open(&fit, 0, 0, 3)"),
+    Call("cubejobs.h", "struct cubejobs_fit fit; (void)&fit", "cubejobs_fit_take(&fit, 1)", ".code"),
+)
+# Each header with an enum of codes: what has one, and how it is read.
+KINDS = (
+    ("cubejobs.h", "cubejobs_code", ("struct cubejobs_answer", "it.code")),
+    (REGIONS, "cubejobs_regions_code", ("struct cubejobs_regions_answer", "cubejobs_regions_code_of(it)")),
+    (REGIONS, "cubejobs_regions_code", ("struct cubejobs_regions_occupancy_answer", "it.code")),
+    (LANES, "cubejobs_dispatch_code", ("struct cubejobs_submit_answer", "it.code")),
+    ("cubejobs_rounds.h", "cubejobs_rounds_code", ("struct cubejobs_step_answer", "it.code")),
+)
 # A fault in a header, and the language that refuses it.
 FAULTS = (
     ("cubejobs_regions.h", "DONE = 0, ", "DONE = 0, // a comment of C99\n", "c"),
-    ("cubejobs_regions.h", "<stdint.h>", "<stddef.h>", "c"),
+    ("cubejobs_codes.h", "<stdint.h>", "<stddef.h>", "c"),
     ("cubejobs_regions.h", "struct cubejobs_block {", "struct cubejobs_regions_block {", "c++"),
     ("cubejobs_regions.h", "uint64_t node = held.code", "uint32_t node = held.code", "c"),
 )
@@ -43,8 +89,12 @@ def source(folder, names, language):
 
 def refusal(folder, compiler, standard, names, flags=()):
     language = COMPILERS[compiler][0]
-    words = [compiler, f"-std={standard}", *WARNINGS, *flags, "-O1", "-I", folder, "-x", language, "-c", "-"]
-    status, _, said = answer([*words, *NOWHERE], source(folder, names, language), text=True)
+    return refusal_of(compiler, standard, source(folder, names, language), ["-I", folder, *flags])
+
+
+def refusal_of(compiler, standard, text, flags):
+    words = [compiler, f"-std={standard}", *WARNINGS, *MORE[compiler], *flags, "-O1", "-x", COMPILERS[compiler][0], "-c", "-"]
+    status, _, said = answer([*words, *NOWHERE], text, text=True)
     return "" if status == 0 and not said else said or "it failed with no word"
 
 
@@ -60,9 +110,29 @@ def must_be_seen(folder, oldest, name, old, new, language):
     with tempfile.TemporaryDirectory() as room:
         write(f"{room}/{name}", text.replace(old, new))
         for compiler in (it for it in oldest if COMPILERS[it][0] == language):
-            tries = ((), ("-fsanitize=thread",))
+            tries = (("-I", folder), ("-I", folder, "-fsanitize=thread"))
             said = [refusal(room, compiler, oldest[compiler], [name], flags) for flags in tries]
             must(any(said), f"{compiler} takes {new!r}")
+
+
+def must_not_be_ignored(folder, compiler, standard, call):
+    """Sees that a call may not be made for nothing, and that its result may be used."""
+    head = f'#include "{call.header}"\nvoid act(void);\nvoid act(void) {{ static {call.handles}; '
+    for use, is_refused in ((f"{call.words};", True), (f"if ({call.words}{call.code}) return;", False)):
+        said = refusal_of(compiler, standard, f"{head}{use} }}\n", ["-I", folder])
+        must(bool(said) == is_refused, said[:600] or f"{call.words} may be ignored")
+
+
+def must_have_each_case(folder, compiler, standard, kind):
+    """Sees that a switch over codes is complete, and that one which lacks a code is not."""
+    header, enum, value = kind
+    codes = re.findall(r"^    (CUBEJOBS_\w+) = \d+", read(folder, header).partition(f"enum {enum} {{")[2].partition("};")[0], re.M)
+    for left in (codes, codes[:-1]):
+        cases = " ".join(f"case {it}:" for it in left)
+        text = f'#include "{header}"\nint act({value[0]} it);\nint act({value[0]} it) {{ '
+        text += f"switch ({value[1]}) {{ {cases} return 1; }} return 0; }}\n"
+        said = refusal_of(compiler, standard, text, ["-I", folder])
+        must(bool(said) == (left is not codes), said[:600] or f"{compiler}: a switch without {codes[-1]} is complete")
 
 
 def tries_of(compiler):
@@ -70,6 +140,11 @@ def tries_of(compiler):
     for names in (*([name] for name in (*NAMES, *LATER)), NAMES, NAMES[::-1], (*NAMES, *LATER)):
         yield names, ()
     yield ["cubejobs_wait.h"], ("-DCUBEJOBS_EVENT_CONDITION",)
+    yield ["cubejobs_wait.h"], (CHECKED,)
+    yield ["cubejobs_regions.h"], (CHECKED, "-fsanitize=thread")
+    if COMPILERS[compiler][0] == "c++":
+        yield ["cubejobs.hpp"], ("-fno-exceptions", "-fno-rtti")
+        yield ["cubejobs.hpp"], (CHECKED,)
     if os.path.exists("/usr/include/valgrind/helgrind.h"):
         yield ["cubejobs_regions.h"], ("-DCUBEJOBS_HELGRIND", "-Wno-gnu-statement-expression", "-Wno-pedantic")
     for it in SANITIZERS[compiler]:
@@ -98,6 +173,12 @@ def main(words):
         raise Skipped("there is no compiler")
     oldest = {compiler: standards[0] for compiler, standards in known.items()}
     rows = [Row(f"a fault that is seen: {fault[2]!r}", must_be_seen, (folder, oldest, *fault)) for fault in FAULTS]
+    for compiler, standards in known.items():
+        for standard in {standards[0], standards[-1]}:
+            rows += [Row(f"{compiler} -std={standard}: {it.words} is used", must_not_be_ignored, (folder, compiler, standard, it))
+                     for it in CALLS]
+            rows += [Row(f"{compiler} -std={standard}: the cases of {it[2][0]}", must_have_each_case,
+                         (folder, compiler, standard, it)) for it in KINDS]
     for compiler, standards in known.items():
         for standard, (names, flags) in itertools.product(standards, tries_of(compiler)):
             if not any(standard in LATER.get(name, ()) for name in names):

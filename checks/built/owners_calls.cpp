@@ -113,6 +113,68 @@ template <class Call> static void expect_error(std::uint32_t code, Call call, co
     }
 }
 
+/* What was moved from is empty, and safe to use. */
+static void moved() {
+    machine mine(4), theirs = std::move(mine);
+    block held = theirs.take(1), upper;
+    expect(mine.code() == CUBEJOBS_REGIONS_NOT_OPEN && theirs.code() == CUBEJOBS_REGIONS_DONE, "codes of machines");
+    expect(mine.take(0).code() == CUBEJOBS_REGIONS_NOT_OPEN && mine.take_exact(0).code() == CUBEJOBS_REGIONS_NOT_OPEN &&
+               mine.take_at(0, 0).code() == CUBEJOBS_REGIONS_NOT_OPEN, "a take of a moved machine");
+    expect(mine.take_or_wait(0).code() == CUBEJOBS_REGIONS_NOT_OPEN &&
+               mine.take_for(0, std::chrono::seconds(1)).code() == CUBEJOBS_REGIONS_NOT_OPEN, "a wait of a moved machine");
+    expect(mine.split(held).code() == CUBEJOBS_REGIONS_NOT_OPEN && !mine.join(held, upper) && held, "halves");
+    expect(mine.occupancy().code == CUBEJOBS_REGIONS_NOT_OPEN, "an occupancy of a moved machine");
+    mine.adopt(held);
+    mine.stop_waits();
+    expect_error(CUBEJOBS_REGIONS_NOT_OPEN, [&] { mine.share(); }, "a share of a moved machine");
+    held.release();
+    expect(theirs.occupancy().held == 0, "a block goes back to its machine");
+    mine = machine(2);
+    expect(mine.take(2).code() == CUBEJOBS_REGIONS_DONE, "a machine after a move");
+    first_fit one(3), other = std::move(one);
+    expect(one.take(0).code() == CUBEJOBS_BAD_SIZE && one.code() == CUBEJOBS_BAD_SIZE && !other.code(), "first fit");
+    cubejobs::lanes lanes(2, 1, 4), kept = std::move(lanes);
+    expect(lanes.close().code == CUBEJOBS_DISPATCH_NOT_OPEN && lanes.code() == CUBEJOBS_DISPATCH_NOT_OPEN, "lanes");
+    expect_error(CUBEJOBS_DISPATCH_NOT_OPEN, [&] { lanes.lane(); }, "a lane of moved lanes");
+    expect_error(CUBEJOBS_DISPATCH_NOT_OPEN, [&] { lanes.finish(); }, "a finish of moved lanes");
+    cubejobs::lane lane = kept.lane(), sent = std::move(lane);
+    cubejobs::worker worker = kept.worker(), same = std::move(worker);
+    expect(!lane && sent && !worker && same, "handles that were moved");
+    expect(lane.submit(1, 0).code == CUBEJOBS_DISPATCH_NOT_OPEN, "a submit to a moved lane");
+    expect(worker.try_next().code == CUBEJOBS_DISPATCH_NOT_OPEN, "a take by a moved worker");
+    expect_error(CUBEJOBS_DISPATCH_NOT_OPEN, [&] { cubejobs::shared_lane none(std::move(lane)); }, "a shared lane");
+}
+
+/* Waits until a deadline, without one, and until a stop. The threads share the machine. */
+static void waits() {
+    using clock = std::chrono::steady_clock;
+    machine mine(3);
+    block all = mine.take(3);
+    const clock::time_point end = clock::now() + std::chrono::milliseconds(20);
+    expect(mine.take_until(0, end).code() == CUBEJOBS_REGIONS_TIMED_OUT && clock::now() >= end, "a deadline");
+    expect(mine.take_for(1, std::chrono::nanoseconds(-1)).code() == CUBEJOBS_REGIONS_TIMED_OUT, "a time that has passed");
+    expect(mine.take_for(4, std::chrono::hours(1)).code() == CUBEJOBS_REGIONS_BAD_DIMENSION, "a dimension");
+    std::vector<std::thread> threads;
+    std::atomic<unsigned> given{0}, stopped{0};
+    for (unsigned number = 0; number < 4; number++) {
+        threads.emplace_back([&given, &stopped, number](machine own) {
+            for (;;) {
+                block one = number % 2 ? own.take_or_wait(3) : own.take_for(2, std::chrono::hours::max());
+                if (one.code() == CUBEJOBS_REGIONS_STOPPED) break;
+                expect(one.code() == CUBEJOBS_REGIONS_DONE, "a wait is refused");
+                given++;
+            }
+            stopped++;
+        }, mine.share());
+    }
+    all.release();
+    while (given < 1000) std::this_thread::yield();
+    mine.stop_waits();
+    for (std::thread &thread : threads) thread.join();
+    expect(stopped == 4 && mine.take_or_wait(0).code() == CUBEJOBS_REGIONS_STOPPED, "a stop");
+    expect(mine.occupancy().held == 0 && mine.take(3).code() == CUBEJOBS_REGIONS_DONE, "a take after a stop");
+}
+
 static void lanes_of_jobs() {
     expect_error(CUBEJOBS_DISPATCH_BAD_SIZES, [] { cubejobs::lanes none(0, 1, 1); }, "no lanes");
     cubejobs::lanes mine(2, 1, 2);
@@ -277,6 +339,8 @@ int main() {
     blocks();
     lifetimes();
     exact();
+    moved();
+    waits();
     lanes_of_jobs();
     jobs_with_blocks();
     sleepers();

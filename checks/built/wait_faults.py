@@ -7,11 +7,18 @@ from checks.lib.repository import path
 LOST = b"a wake is lost"
 # Of the threads that wait for blocks.
 RAISED = "    cubejobs_event_raise(event);\n"
-QUICK = "    struct cubejobs_regions_answer answer = cubejobs_regions_take(thread, block, k);\n"
-LOCKED, UNLOCKED = (f"        pthread_mutex_{it}(&event->turn);\n" for it in ("lock", "unlock"))
-EXACT = """        key = cubejobs_event_key(event);
-        answer = cubejobs_regions_take_exact(thread, block, k);
+QUICK = "    answer = cubejobs_regions_take(thread, block, k);\n"
+LOCKED, UNLOCKED = (f"    pthread_mutex_{it}(&event->turn);\n" for it in ("lock", "unlock"))
+KEYED = "    *key = cubejobs_event_key(event);\n"
+STOPPED = "    if (!cubejobs_event_is_stopped(event)) answer = cubejobs_regions_take_exact(thread, block, k);\n"
+EXACT = KEYED + STOPPED
+NOTED = "    __atomic_store_n(&event->is_stopped, 1, __ATOMIC_SEQ_CST);\n"
+LATE = """        is_late = deadline && cubejobs_has_passed(deadline);
+        if (!is_late) cubejobs_event_sleep(event, key, deadline);
 """
+EARLY, NEVER = b"a wait ends before its deadline", b"there are both ends"
+# Of a wait by a mutex and a condition, whose thread is cancelled.
+CANCELLED = "PTHREAD_CANCEL_DISABLE", "PTHREAD_CANCEL_ENABLE"
 # Of the looks of workers.
 KEY = "        *key = cubejobs_event_key(&parking->room);\n"
 FIND = "    found = cubejobs_dispatch_find(worker);\n"
@@ -24,7 +31,7 @@ LOOKED = f"    if ({FOUND} || (!in_turn && {NONE})){RAISE}"
 WAKE = "    while (wake.code == CUBEJOBS_DISPATCH_AGAIN) wake ="
 WOKEN = "    if (wake.code == CUBEJOBS_DISPATCH_DONE) cubejobs_unpark(parking, wake.worker);\n"
 ALL = "    cubejobs_unpark_all(parking);\n"
-DONE = "    uint32_t code = cubejobs_dispatch_done(worker);\n"
+DONE = "    enum cubejobs_dispatch_code code = cubejobs_dispatch_done(worker);\n"
 STOP = "    cubejobs_event_raise(&parking->room);\n}"
 PARK = "    while (__atomic_load_n(word, __ATOMIC_SEQ_CST) == 0) "
 PARK += "syscall(SYS_futex, word, FUTEX_WAIT_PRIVATE, 0, 0, 0, 0);\n"
@@ -36,6 +43,10 @@ OF_THE_HEADER = (
     ("wait_order", "a granted take raises nothing", QUICK + RAISED, f"{QUICK}    if (answer.code) {RAISED}", LOST),
     ("wait_order", "a refused take raises nothing", QUICK + RAISED, f"{QUICK}    if (!answer.code) {RAISED}", LOST),
     ("wait_order", "waiters take at the same time", f"{LOCKED}{EXACT}{UNLOCKED}", EXACT, LOST),
+    ("deadline_calls", "a stop of waits raises nothing", NOTED + RAISED, NOTED, LOST),
+    ("deadline_calls", "a stop is not looked for", STOPPED, STOPPED.replace("if (!cubejobs_event_is_stopped(event)) ", ""), LOST),
+    ("deadline_calls", "a deadline is not looked at", LATE, LATE.replace("cubejobs_has_passed(deadline)", "0"), NEVER),
+    ("deadline_calls", "a wait is late at once", LATE, LATE.replace("cubejobs_has_passed(deadline)", "1"), EARLY),
     ("look_order", "a first look raises nothing", LOOKED, f"    if (in_turn && {FOUND}){RAISE}", LOST),
     ("look_order", "a look that finds a block raises nothing", LOOKED, f"    if (!in_turn && {NONE}){RAISE}", LOST),
     ("look_order", "a look that finds none raises nothing", LOOKED, f"    if ({FOUND}){RAISE}", LOST),
@@ -54,20 +65,20 @@ OF_THE_HEADER = (
 )
 # The same of `next` in cubejobs.hpp, which look_order.c sees with OWNERS.
 RAISES = "        if (got.code == CUBEJOBS_DISPATCH_DONE || (has_no_block && !in_turn)) all.raise();\n"
-KEYS = "        if (in_turn) turn.lock(), key = all.key();\n"
+LOCKS, KEYS = "        if (in_turn) {\n            turn.lock();\n", "            key = all.key();\n        }\n"
 FINDS = "        const auto got = cubejobs_dispatch_find(&mine->at);\n"
 UNLOCKS = "        if (in_turn) turn.unlock();\n"
 SUBMITS = "        if (answer.code == CUBEJOBS_DISPATCH_DONE) mine->all->wake(&mine->at);\n"
-RELEASES = "{ cubejobs_dispatch_done(&worker.at), worker.all->raise(); }"
+RELEASES = "        cubejobs_dispatch_done(&worker.at);\n        worker.all->raise();\n"
 OF_OWNERS = (
     ("a first look", RAISES, "        if (got.code == CUBEJOBS_DISPATCH_DONE && in_turn) all.raise();\n"),
     ("a look that finds a block", RAISES, "        if (has_no_block && !in_turn) all.raise();\n"),
     ("a look that finds none", RAISES, "        if (got.code == CUBEJOBS_DISPATCH_DONE) all.raise();\n"),
     ("a later look", RAISES, RAISES.replace("if (", "if (!in_turn && (").replace("&& !in_turn))", ")))")),
-    ("a turn", f"{KEYS}{FINDS}{UNLOCKS}", f"        if (in_turn) key = all.key();\n{FINDS}"),
-    ("a key", f"{KEYS}{FINDS}", f"        if (in_turn) turn.lock();\n{FINDS}        if (in_turn) key = all.key();\n"),
+    ("a turn", f"{LOCKS}{KEYS}{FINDS}{UNLOCKS}", f"        if (in_turn) key = all.key();\n{FINDS}"),
+    ("a key", f"{LOCKS}{KEYS}{FINDS}", f"{LOCKS}        }}\n{FINDS}        if (in_turn) key = all.key();\n"),
     ("a wake", SUBMITS, ""),
-    ("a release", RELEASES, "{ cubejobs_dispatch_done(&worker.at); }"),
+    ("a release", RELEASES, "        cubejobs_dispatch_done(&worker.at);\n"),
 )
 WRAPPED = ",".join(f"--wrap=cubejobs_dispatch_{it}" for it in ("wake", "find", "awake"))
 

@@ -7,7 +7,7 @@ use core::marker::PhantomData;
 use core::mem::size_of;
 use core::ptr;
 
-pub const VERSION: u32 = 2;
+pub const VERSION: u32 = 3;
 pub const MAX_DIM: u32 = 20;
 pub const MAX_LANES: u32 = 4096;
 pub const MAX_WORKERS: u32 = 4096;

@@ -9,13 +9,13 @@ pub const MAX_DIM: usize = 12;
 pub const MAX_STATIONS: usize = 48;
 
 pub const DONE: u32 = 0;
-pub const NO_SUBCUBE: u32 = 1;
-pub const BAD_DIMENSION: u32 = 2;
-pub const BAD_STATION: u32 = 3;
-pub const STATION_HOLDS: u32 = 4;
-pub const NOTHING_HELD: u32 = 5;
-pub const BAD_BASE: u32 = 6;
-pub const NO_STATION: u32 = 8;
+pub const NO_SUBCUBE: u32 = 60;
+pub const BAD_DIMENSION: u32 = 3;
+pub const BAD_STATION: u32 = 52;
+pub const STATION_HOLDS: u32 = 53;
+pub const NOTHING_HELD: u32 = 6;
+pub const BAD_BASE: u32 = 4;
+pub const NO_STATION: u32 = 54;
 
 #[repr(C)]
 #[derive(Clone, Copy)]

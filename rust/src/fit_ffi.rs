@@ -7,7 +7,7 @@ use crate::ffi::Answer;
 
 pub const MAX_DIM: u32 = 20;
 
-pub const BAD_SIZE: u32 = 7;
+pub const BAD_SIZE: u32 = 50;
 
 #[link(name = "cubejobs_c", kind = "static")]
 unsafe extern "C" {

@@ -8,7 +8,7 @@ use core::mem::size_of;
 use core::ptr;
 use core::sync::atomic::{AtomicU64, Ordering::SeqCst};
 
-pub const VERSION: u32 = 2;
+pub const VERSION: u32 = 3;
 pub const MAX_DIM: u32 = 20;
 pub const FREE_PLACES: usize = 21;
 

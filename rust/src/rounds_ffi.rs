@@ -8,8 +8,8 @@ pub const MAX_DIM: u32 = 31;
 pub const NO_RANK: u64 = u64::MAX;
 
 pub const DONE: u32 = 0;
-pub const BAD_DIMENSION: u32 = 2;
-pub const BAD_ROOT: u32 = 3;
+pub const BAD_DIMENSION: u32 = 3;
+pub const BAD_ROOT: u32 = 56;
 
 #[repr(C)]
 #[derive(Clone, Copy)]

@@ -1,6 +1,6 @@
 //! The functions of the library, under the names that C declares.
 
-ghost use Rattle.std.specs.Prelude.{◌≡◌, ◌≢◌, ℕ, ◌<◌, ◌≤◌, ◌↔◌, false, None, Some, IsTrue, IsSome};
+ghost use Rattle.std.specs.Prelude.{◌≡◌, ◌≢◌, ℕ, ◌<◌, ◌≤◌, ◌⊎◌, ◌↔◌, false, None, Some, IsTrue, IsSome};
 ghost use Rattle.cube_shape.specs.declared.region.Region.{Region as HeldRegion};
 ghost use Rattle.cube_shape.specs.Region.{Covers, block};
 ghost use Rattle.cube_shape.specs.Machine.{Gives, HasNoFit, IsFirstFit, TakesBack};
@@ -86,7 +86,9 @@ pub extern "C" fn cubejobs_open_sized(machine: &mut Machine, size: u64, n: u32) 
 pub extern "C" fn cubejobs_take(machine: &mut Machine, station: u32, k: u32) -> Answer
     requires sound { IsSound machine.old }
     ensures sound { IsSound machine.new }
-    ensures codes { result.code ≤ STATION_HOLDS }
+    ensures codes { (result.code ≡ DONE) ⊎ (result.code ≡ BAD_STATION)
+        ⊎ (result.code ≡ BAD_DIMENSION) ⊎ (result.code ≡ STATION_HOLDS)
+        ⊎ (result.code ≡ NO_SUBCUBE) }
     ensures bad_station { result.code ≡ BAD_STATION ↔ (MAX_STATIONS ≤ station) }
     ensures bad_dimension { result.code ≡ BAD_DIMENSION
         ↔ ((station < MAX_STATIONS) × (machine.old.dim < k)) }

@@ -2,7 +2,7 @@
 
 /// The version of the header that this library is for. Any change of its structs or functions gets
 /// another version.
-pub const VERSION: u32 = 2;
+pub const VERSION: u32 = 3;
 
 /// The tag of an open handle of a machine. A handle with any other tag is shut.
 pub const OPEN: u64 = 0x6375_6265_7265_6773;

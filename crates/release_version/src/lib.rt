@@ -2,7 +2,7 @@
 #![tactic(auto)]
 
 /// The version as a text, as semver.org defines it. Between two releases it ends in `-dev`.
-pub const VERSION: &str = "0.2.1-dev";
+pub const VERSION: &str = "0.3.0-dev";
 
 /// The version as a number: 10,000 times the first part, plus 100 times the second, plus the third.
-pub const VERSION_NUMBER: u32 = 201;
+pub const VERSION_NUMBER: u32 = 300;

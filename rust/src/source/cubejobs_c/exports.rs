@@ -77,7 +77,7 @@ pub fn cubejobs_open_sized(machine: &mut Machine, size: u64, n: u32) -> u32 {
 ///
 /// - requires sound: `IsSound machine.old`
 /// - ensures sound: `IsSound machine.new`
-/// - ensures codes: `result.code ≤ STATION_HOLDS`
+/// - ensures codes: `(result.code ≡ DONE) ⊎ (result.code ≡ BAD_STATION) ⊎ (result.code ≡ BAD_DIMENSION) ⊎ (result.code ≡ STATION_HOLDS) ⊎ (result.code ≡ NO_SUBCUBE)`
 /// - ensures bad_station: `result.code ≡ BAD_STATION ↔ (MAX_STATIONS ≤ station)`
 /// - ensures bad_dimension: `result.code ≡ BAD_DIMENSION ↔ ((station < MAX_STATIONS) × (machine.old.dim < k))`
 /// - ensures station_holds: `result.code ≡ STATION_HOLDS ↔ ((station < MAX_STATIONS) × (k ≤ machine.old.dim) × IsSome (held_in machine.old station))`

@@ -1,23 +1,24 @@
 // Made from crates/cubejobs_rounds/src/codes.rt by checks/lib/erase.py. Change that file.
-//! The codes of the answers.
+//! The codes of the answers. The libraries for C share one row of numbers: a number has one meaning
+//! in all of them.
 
 /// The call succeeded.
 pub const DONE: u32 = 0;
 
 /// No shape has this number.
-pub const BAD_SHAPE: u32 = 1;
+pub const BAD_SHAPE: u32 = 55;
 
 /// The dimension is not below `DIM_LIMIT`.
-pub const BAD_DIMENSION: u32 = 2;
+pub const BAD_DIMENSION: u32 = 3;
 
 /// The root is no rank of the collective.
-pub const BAD_ROOT: u32 = 3;
+pub const BAD_ROOT: u32 = 56;
 
 /// The rank is none of the collective.
-pub const BAD_RANK: u32 = 4;
+pub const BAD_RANK: u32 = 57;
 
 /// The round is not below the dimension.
-pub const BAD_ROUND: u32 = 5;
+pub const BAD_ROUND: u32 = 58;
 
 /// The number is not below that of the messages.
-pub const BAD_NUMBER: u32 = 6;
+pub const BAD_NUMBER: u32 = 59;

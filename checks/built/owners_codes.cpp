@@ -1,0 +1,38 @@
+/* Uses the owners of cubejobs.hpp without exceptions: each refusal is a code, and the owner is empty. */
+#include "cubejobs.hpp"
+
+#include <cstdio>
+#include <cstdlib>
+
+static void expect(bool holds, const char *what) {
+    if (holds) return;
+    std::fprintf(stderr, "owners_codes.cpp: %s\n", what);
+    std::exit(1);
+}
+
+int main() {
+    cubejobs::machine none(21), mine(3);
+    expect(none.code() == CUBEJOBS_REGIONS_BAD_DIMENSION && mine.code() == CUBEJOBS_REGIONS_DONE, "machines");
+    expect(none.take(0).code() == CUBEJOBS_REGIONS_NOT_OPEN, "a take of no machine");
+    expect(none.share().code() == CUBEJOBS_REGIONS_NOT_OPEN && mine.share().code() == CUBEJOBS_REGIONS_DONE, "shares");
+    cubejobs::block held = mine.take(3);
+    expect(held && !mine.take_exact(0), "takes");
+    cubejobs::first_fit flat(21), small(2);
+    expect(flat.code() == CUBEJOBS_BAD_DIMENSION && !flat.take(0) && small.take(1), "first fit");
+    cubejobs::lanes empty(0, 1, 1), lanes(1, 1, 2);
+    expect(empty.code() == CUBEJOBS_DISPATCH_BAD_SIZES && !empty.lane() && !empty.worker(), "lanes of no size");
+    cubejobs::lane lane = lanes.lane();
+    expect(lane && !lanes.lane(), "one lane is out, and there is no other");
+    expect(lane.submit(7, 1).code == CUBEJOBS_DISPATCH_DONE, "a submit");
+    cubejobs::shared_lane shared(std::move(lane)), again = shared.share(), nothing(std::move(lane));
+    expect(shared && again && !nothing && again.submit(8, 1).code == CUBEJOBS_DISPATCH_DONE, "shared lanes");
+    std::vector<cubejobs_job_answer> left(3);
+    expect(lanes.finish(left) == CUBEJOBS_DISPATCH_NOT_CLOSED && left.empty(), "a finish of open lanes");
+    expect(lanes.close().accepted == 2 && lanes.finish(left) == CUBEJOBS_DISPATCH_LANE_OUT, "a finish of lanes that are out");
+    {
+        const cubejobs::shared_lane one(std::move(shared)), other(std::move(again));
+        expect(one && other, "handles that end");
+    }
+    expect(lanes.finish(left) == CUBEJOBS_DISPATCH_DONE && left.size() == 2 && left[1].payload == 8, "a finish");
+    std::puts("ffi: owners of C++ without exceptions say why they are empty");
+}

@@ -1,0 +1,77 @@
+"""Compares the codes of the libraries for C, which share one row of numbers.
+
+A name has one number in all headers, and a number one name. include/cubejobs_codes.h has a text for each number, each a
+different one, and for no other. A crate has the codes of its header that its library returns. The Rust package has the
+numbers of the headers. `checks/run codes` prints what differs.
+"""
+import re
+from typing import NamedTuple, Tuple
+
+from checks.lib.repository import read
+from checks.lib.rows import must, print_faults
+
+
+class Library(NamedTuple):
+    """A library: its header, the prefix and the enum of its codes, its crate, and the codes that no call of it returns."""
+
+    header: str
+    prefix: str
+    enum: str
+    crate: str
+    not_its_own: Tuple[str, ...] = ()
+
+
+LIBRARIES = (
+    Library("cubejobs.h", "CUBEJOBS_", "cubejobs_code", "cubejobs_c"),
+    Library("cubejobs_regions.h", "CUBEJOBS_REGIONS_", "cubejobs_regions_code", "cubejobs_regions",
+            ("TIMED_OUT", "STOPPED", "STALE")),
+    Library("cubejobs_dispatch.h", "CUBEJOBS_DISPATCH_", "cubejobs_dispatch_code", "cubejobs_dispatch"),
+    Library("cubejobs_rounds.h", "CUBEJOBS_ROUNDS_", "cubejobs_rounds_code", "cubejobs_rounds"),
+)
+TEXTS = "cubejobs_codes.h"
+# Where the Rust package has numbers of codes, and the header that they are of.
+IN_RUST = {"ffi.rs": "cubejobs.h", "fit_ffi.rs": "cubejobs.h", "regions_ffi.rs": "cubejobs_regions.h",
+           "dispatch_ffi.rs": "cubejobs_dispatch.h", "rounds_ffi.rs": "cubejobs_rounds.h"}
+CONSTANT = re.compile(r"^pub const ([A-Z_]+): u32 = (\d+);", re.M)
+
+
+def codes_of(library):
+    """Returns the codes of a header: the number of each name."""
+    text = read("include", library.header)
+    found = re.search(rf"^enum {library.enum} \{{(.*?)^\}};", text, re.M | re.S)
+    must(found, f"{library.header} has no enum {library.enum}")
+    codes = {name: int(number) for name, number in re.findall(rf"{library.prefix}([A-Z_]+) = (\d+)", found[1])}
+    must(len(codes) > 2, f"{library.header} has {len(codes)} codes")
+    return codes
+
+
+def faults():
+    headers = {it.header: codes_of(it) for it in LIBRARIES}
+    names, numbers = {}, {}
+    for header, codes in headers.items():
+        for name, number in codes.items():
+            if names.setdefault(name, number) != number:
+                yield f"{header}: {name} is {number}, and elsewhere {names[name]}"
+            if numbers.setdefault(number, name) != name:
+                yield f"{header}: {number} is {name}, and elsewhere {numbers[number]}"
+    texts = re.findall(r'^    case (\d+): return "(.*)";', read("include", TEXTS), re.M)
+    if len(dict(texts)) != len(texts) or len({text for _, text in texts}) != len(texts):
+        yield f"{TEXTS}: two codes, or two texts, are the same"
+    yield from (f"{TEXTS}: {number} has a text, and is no code" for number, _ in texts if int(number) not in numbers)
+    yield from (f"{TEXTS}: {number} has no text" for number in numbers if str(number) not in dict(texts))
+    for library in LIBRARIES:
+        own = {name: number for name, number in headers[library.header].items() if name not in library.not_its_own}
+        crate = {name: int(number) for name, number in CONSTANT.findall(read("crates", library.crate, "src/codes.rt"))
+                 if name not in ("VERSION", "NO_WORKER")}
+        if crate != own:
+            yield f"{library.crate} and {library.header} differ in {sorted(set(crate.items()) ^ set(own.items()))}"
+    for file, header in IN_RUST.items():
+        constants = CONSTANT.findall(read("rust/src", file))
+        for name, number in constants:
+            if name in names and headers[header].get(name) != int(number):
+                yield f"rust/src/{file}: {name} is {number}, and in {header} {headers[header].get(name)}"
+
+
+def main(words):
+    must(not words, "codes takes no words")
+    return print_faults(faults())

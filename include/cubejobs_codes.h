@@ -1,0 +1,107 @@
+/* What the codes of all libraries mean, for C and C++. The other headers include this one.
+ *
+ * Each header has an enum of the codes of its own calls. They all share one row of numbers: a code
+ * that two headers have is the same number in both, and a number has one meaning. So one function
+ * has the text of each code. The numbers 30 and 45 to 49 are not in use.
+ */
+#ifndef CUBEJOBS_CODES_H
+#define CUBEJOBS_CODES_H
+
+#include <stdint.h>
+
+/* C89 has no inline of its own. */
+#if defined(__cplusplus) || (defined(__STDC_VERSION__) && __STDC_VERSION__ >= 199901L)
+#define CUBEJOBS_INLINE static inline
+#else
+#define CUBEJOBS_INLINE static __inline__
+#endif
+
+/* Before a call whose result must not be ignored: without it nobody knows whether the caller has
+ * something to give back. */
+#if defined(__cplusplus) && __cplusplus >= 201703L
+#define CUBEJOBS_NODISCARD [[nodiscard]]
+#elif !defined(__cplusplus) && defined(__STDC_VERSION__) && __STDC_VERSION__ > 201710L
+#define CUBEJOBS_NODISCARD [[nodiscard]]
+#else
+#define CUBEJOBS_NODISCARD __attribute__((warn_unused_result))
+#endif
+
+/* Casts as each language wants them: between pointers or between a pointer and a number, between
+ * numbers and enums, and from a pointer to const. */
+#ifdef __cplusplus
+#define CUBEJOBS_CAST(type, value) reinterpret_cast<type>(value)
+#define CUBEJOBS_AS(type, value) static_cast<type>(value)
+#define CUBEJOBS_WRITABLE(type, value) const_cast<type>(value)
+#else
+#define CUBEJOBS_CAST(type, value) ((type)(value))
+#define CUBEJOBS_AS(type, value) ((type)(value))
+#define CUBEJOBS_WRITABLE(type, value) ((type)(value))
+#endif
+
+/* Returns what a code of any of the libraries means, or that they have no such code. The text stays
+ * as long as the program. */
+CUBEJOBS_INLINE const char *cubejobs_code_text(uint32_t code) {
+    switch (code) {
+    case 0: return "the call succeeded";
+    case 1: return "a part of each block of this dimension was in use";
+    case 2: return "no block was found, and one may be free";
+    case 3: return "the dimension is too large, or the block has no halves";
+    case 4: return "no block of this dimension begins at this processor";
+    case 5: return "a part of the block was in use";
+    case 6: return "no such block is held";
+    case 7: return "the handle that is to be filled holds a block";
+    case 8: return "the block is of another machine";
+    case 9: return "the two are not the two halves of a block";
+    case 10: return "a block is held, and this is the last handle";
+    case 11: return "memory ran out";
+    case 12: return "the handle is shut";
+    case 13: return "the handle is of another kind";
+    case 14: return "the handle that is to be opened is open";
+    case 15: return "the header is not of the library's version";
+    case 16: return "the lane has as many jobs as its capacity";
+    case 17: return "the lanes are closed";
+    case 18: return "the lane has accepted 2^62 jobs";
+    case 19: return "there is no job";
+    case 20: return "another worker took the job";
+    case 21: return "there is no job, and none will come";
+    case 22: return "there is no lane with this number";
+    case 23: return "a size of the lanes is out of range";
+    case 24: return "the lanes have ended";
+    case 25: return "the lanes have not ended";
+    case 26: return "the lanes are open";
+    case 27: return "a lane is not back";
+    case 28: return "a worker is not back";
+    case 29: return "all lanes, or all workers, are out";
+    case 31: return "a job is left";
+    case 32: return "another call has not ended";
+    case 33: return "no block was found for the job that the worker keeps";
+    case 34: return "no block was taken, since an older job waits for one";
+    case 35: return "the job that the worker keeps is larger than the machine";
+    case 36: return "the worker runs a job";
+    case 37: return "the worker keeps a job";
+    case 38: return "the worker keeps no job";
+    case 39: return "the worker runs no job";
+    case 40: return "another producer is inside the shared lane";
+    case 41: return "no thread is to be woken";
+    case 42: return "other calls were in the way: call again";
+    case 43: return "there is no job: park the thread";
+    case 44: return "the worker lies down";
+    case 50: return "the header is not the library's, or the memory is too small";
+    case 51: return "a byte of the machine is neither 0 nor 1";
+    case 52: return "there is no station with this number";
+    case 53: return "the station holds a block";
+    case 54: return "every station holds a block";
+    case 55: return "no shape of messages has this number";
+    case 56: return "the root is not below the number of ranks";
+    case 57: return "the rank is not below the number of ranks";
+    case 58: return "the round is not below the number of rounds";
+    case 59: return "the number is not below the number of messages";
+    case 60: return "no block of this dimension is free, or the given one is not";
+    case 61: return "the deadline passed";
+    case 62: return "the waits of this event were stopped";
+    case 63: return "the handle is a copy, and its block or machine was given back";
+    default: return "the libraries have no such code";
+    }
+}
+
+#endif
