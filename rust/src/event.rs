@@ -15,6 +15,9 @@ pub struct Event {
     // Locked between a waiter's look at the state and its sleep, and before it is woken.
     sleep: Mutex<()>,
     changed: Condvar,
+    // How often a sleeper was woken.
+    #[cfg(test)]
+    pub wakes: std::sync::atomic::AtomicU64,
 }
 
 fn lock(mutex: &Mutex<()>) -> MutexGuard<'_, ()> {
@@ -49,6 +52,8 @@ impl Event {
         let mut sleep = lock(&self.sleep);
         while self.state.load(SeqCst) == key {
             sleep = self.changed.wait(sleep).unwrap_or_else(PoisonError::into_inner);
+            #[cfg(test)]
+            self.wakes.fetch_add(1, SeqCst);
         }
     }
 }

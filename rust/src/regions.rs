@@ -240,8 +240,10 @@ impl<M: Borrow<Machine>> Block<M> {
         let shared: &Machine = machine.borrow();
         let mut handle = BlockHandle::EMPTY;
         let mut answer = ffi::take(&mut shared.handles.borrow(), &mut handle, k);
+        // This is for the quick take. Waiters make their exact takes in turn, so these hide nothing
+        // from each other, whether they are granted or refused.
+        shared.raise();
         while answer.code() == ffi::NO_ROOM || answer.code() == ffi::NOT_NOW {
-            shared.raise();
             let exact = || ffi::take_exact(&mut shared.handles.borrow(), &mut handle, k);
             let (taken, key) = shared.event.in_turn(exact);
             match taken.code() {
@@ -251,7 +253,7 @@ impl<M: Borrow<Machine>> Block<M> {
             }
             answer = taken;
         }
-        Self::taken(machine, handle, answer)
+        Self::granted(machine, handle, answer)
     }
 
     /// Returns the held block.
@@ -288,9 +290,14 @@ impl<M: Borrow<Machine>> Block<M> {
         Ok(self)
     }
 
-    /// Returns the guard of what a take got, or why it was refused.
+    /// Raises the event, and returns what [`Block::granted`] does.
     fn taken(machine: M, handle: BlockHandle, answer: ffi::Answer) -> Result<Self, TakeError> {
         machine.borrow().raise();
+        Self::granted(machine, handle, answer)
+    }
+
+    /// Returns the guard of what a take got, or why it was refused.
+    fn granted(machine: M, handle: BlockHandle, answer: ffi::Answer) -> Result<Self, TakeError> {
         match answer.code() {
             ffi::DONE => {
                 let region = Region { base: answer.base, dim: answer.dim() };
@@ -368,3 +375,59 @@ impl fmt::Display for StillHeld {
 impl Error for OpenError {}
 impl Error for TakeError {}
 impl Error for StillHeld {}
+
+#[cfg(all(test, feature = "std"))]
+mod tests {
+    use super::Machine;
+    use core::sync::atomic::{AtomicBool, Ordering::SeqCst};
+    use core::time::Duration;
+    use std::thread;
+
+    const WAITERS: u64 = 8;
+
+    #[test]
+    fn refused_waiters_wake_nobody() {
+        let machine = Machine::new(0).unwrap();
+        let block = machine.take(0).unwrap();
+        let wakes = || machine.event.wakes.load(SeqCst);
+        thread::scope(|scope| {
+            for _ in 0..WAITERS {
+                scope.spawn(|| drop(machine.take_or_wait(0).unwrap()));
+            }
+            thread::sleep(Duration::from_millis(500));
+            // Each of the waiters makes one quick take, which may wake each of the others once.
+            let most = WAITERS * (WAITERS - 1);
+            assert!(wakes() <= most, "{} wakes of {WAITERS} threads that wait", wakes());
+            // A quick take of another thread may wake each waiter once.
+            assert!(machine.take(0).is_err());
+            thread::sleep(Duration::from_millis(100));
+            assert!(wakes() <= most + WAITERS, "{} wakes after one more take", wakes());
+            drop(block);
+        });
+    }
+
+    #[test]
+    fn one_block_goes_round() {
+        const THREADS: u64 = 16;
+        const TURNS: u64 = 200;
+        let machine = Machine::new(0).unwrap();
+        let is_held = AtomicBool::new(false);
+        thread::scope(|scope| {
+            for _ in 0..THREADS {
+                scope.spawn(|| {
+                    for _ in 0..TURNS {
+                        let block = machine.take_or_wait(0).unwrap();
+                        assert!(!is_held.swap(true, SeqCst));
+                        thread::yield_now();
+                        is_held.store(false, SeqCst);
+                        drop(block);
+                    }
+                });
+            }
+        });
+        // A turn has two events, which may wake each other thread once: its quick take, and its
+        // release.
+        let most = 2 * THREADS * TURNS * (THREADS - 1);
+        assert!(machine.event.wakes.load(SeqCst) <= most);
+    }
+}
