@@ -23,9 +23,9 @@ fn main() -> Result<(), Box<dyn std::error::Error>> {
         });
     }
     drop(sender);
-    let mut processors = 0_u64;
+    let mut processors = 0;
     for block in receiver {
-        processors += 1 << block.region().dim;
+        processors += block.region().len();
     } // each guard is dropped here
     assert_eq!(machine.occupancy().held, 0);
     println!("{} blocks with {processors} processors in all", THREADS * BLOCKS);

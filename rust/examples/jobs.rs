@@ -10,7 +10,7 @@ fn main() -> Result<(), Box<dyn std::error::Error>> {
             let mut processors = 0;
             // The call sleeps until the job has its block: the processors from `base` on.
             while let Some(job) = worker.next() {
-                processors += 1 << job.region().dim;
+                processors += job.region().len();
             } // here the job is dropped, which releases the block
             processors
         })

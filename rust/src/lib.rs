@@ -66,6 +66,7 @@ mod parking;
 mod payload;
 #[cfg(any(feature = "dispatch", feature = "regions"))]
 mod place;
+mod region;
 #[cfg(feature = "regions")]
 pub mod regions;
 #[cfg(feature = "regions")]
@@ -86,21 +87,13 @@ mod source;
 
 use core::error::Error;
 use core::fmt;
+pub use region::Region;
 
 /// The largest dimension of a machine, which has at most `2^MAX_DIM` processors.
 pub const MAX_DIM: u32 = ffi::MAX_DIM as u32;
 
 /// The number of stations of a machine. They are `0` to `MAX_STATIONS - 1`.
 pub const MAX_STATIONS: u32 = ffi::MAX_STATIONS as u32;
-
-/// An aligned block: the `2^dim` processors from `base` on.
-#[derive(Clone, Copy, Debug, PartialEq, Eq, Hash)]
-pub struct Region {
-    /// The first processor of the block.
-    pub base: u64,
-    /// The dimension of the block.
-    pub dim: u32,
-}
 
 /// A machine with exact first fit, and its stations. It is about 5 KB. A clone is another machine.
 #[derive(Clone)]

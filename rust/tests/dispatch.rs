@@ -353,8 +353,8 @@ impl Table {
     }
 
     fn write(&self, region: Region) {
-        assert_eq!(region.base % (1 << region.dim), 0);
-        let places = region.base as usize..region.base as usize + (1 << region.dim);
+        assert_eq!(region.base % region.len(), 0);
+        let places = region.range().map(|it| it as usize);
         for p in places.clone() {
             assert_eq!(self.owners[p].swap(1, SeqCst), 0, "two owners of {p}");
             // SAFETY: the caller holds the block.
@@ -402,7 +402,7 @@ fn jobs_of_many_threads_run_once_on_blocks_of_their_own() {
                         assert_eq!(u64::from(job.region().dim), *job.payload % u64::from(DIM + 1));
                         table.write(job.region());
                         seen[*job.payload as usize].fetch_add(1, SeqCst);
-                        written.fetch_add(1 << job.region().dim, SeqCst);
+                        written.fetch_add(job.region().len(), SeqCst);
                         progress.fetch_add(1, SeqCst);
                     }
                 });

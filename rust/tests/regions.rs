@@ -139,7 +139,7 @@ impl Table {
     }
 
     fn write(&self, region: Region) {
-        let places = region.base as usize..region.base as usize + (1 << region.dim);
+        let places = region.range().map(|it| it as usize);
         for p in places.clone() {
             assert_eq!(self.counters[p].fetch_add(1, Relaxed), 0, "two owners of {p}");
             // SAFETY: the caller holds the block.
@@ -173,7 +173,7 @@ fn work(
         if x >> 20 & 3 == 0 {
             let Ok(block) = Held::take_exact(all.clone(), k % 8) else { continue };
             table.write(block.region());
-            written += 1 << block.region().dim;
+            written += block.region().len();
             let mut left = left.lock().unwrap();
             left.push_back(block);
             let other = if left.len() > 8 { left.pop_front() } else { None };
@@ -188,7 +188,7 @@ fn work(
         };
         let Ok(block) = taken else { continue };
         table.write(block.region());
-        written += 1 << k;
+        written += block.region().len();
         if let Ok((lower, upper)) = block.split() {
             if x >> 23 & 1 == 0 {
                 drop(lower.join(upper).unwrap());

@@ -153,7 +153,7 @@ impl Placer {
     fn block_apart(&mut self, dim: u32, seats: &[Padded<Seat>]) -> Option<Held> {
         let block = self.block(dim, seats)?;
         match &self.reserve {
-            Some(reserve) if overlap(reserve.target, block.region()) => {
+            Some(reserve) if reserve.target.overlaps(block.region()) => {
                 // A part of the reserved block was released just now. The next call gets it.
                 drop(block);
                 None
@@ -183,7 +183,7 @@ fn placed(gang: Arc<Gang>, block: Held, seats: &[Padded<Seat>]) -> Arc<Gang> {
 }
 
 fn seats_of(region: Region, seats: &[Padded<Seat>]) -> &[Padded<Seat>] {
-    &seats[region.base as usize..][..1 << region.dim]
+    &seats[region.base as usize..][..region.len() as usize]
 }
 
 fn blocks(dim: u32, seats: &[Padded<Seat>]) -> impl Iterator<Item = Region> {
@@ -197,7 +197,7 @@ fn idlest(dim: u32, reserved: Option<Region>, seats: &[Padded<Seat>]) -> Option<
     let count = |region: &Region, is: fn(&Padded<Seat>) -> bool| {
         seats_of(*region, seats).iter().filter(|seat| is(seat)).count()
     };
-    blocks(dim, seats).filter(|region| !reserved.is_some_and(|target| overlap(target, *region))).max_by_key(
+    blocks(dim, seats).filter(|region| !reserved.is_some_and(|target| target.overlaps(*region))).max_by_key(
         |region| {
             let held = count(region, |seat| seat.is_held.load(SeqCst));
             (held == 0, count(region, |seat| seat.is_idle.load(Relaxed)), Reverse(region.base))
@@ -212,21 +212,17 @@ fn emptiest(dim: u32, seats: &[Padded<Seat>]) -> Region {
     blocks(dim, seats).min_by_key(held).expect("the gang is not wider than the pool")
 }
 
-fn overlap(one: Region, other: Region) -> bool {
-    one.base < other.base + (1 << other.dim) && other.base < one.base + (1 << one.dim)
-}
-
 /// Takes the free parts of a block, the large ones first.
 fn take_parts(machine: &Arc<Machine>, region: Region, parts: &mut Vec<Held>) {
-    let is_inside = |part: &Held| part.region().dim >= region.dim && overlap(part.region(), region);
+    let is_inside = |part: &Held| part.region().dim >= region.dim && part.region().overlaps(region);
     if parts.iter().any(is_inside) {
         return;
     }
     if let Ok(part) = Held::take_at(machine.clone(), region) {
         parts.push(part);
-    } else if let Some(dim) = region.dim.checked_sub(1) {
-        take_parts(machine, Region { base: region.base, dim }, parts);
-        take_parts(machine, Region { base: region.base + (1 << dim), dim }, parts);
+    } else if let Some((lower, upper)) = region.halves() {
+        take_parts(machine, lower, parts);
+        take_parts(machine, upper, parts);
     }
 }
 
