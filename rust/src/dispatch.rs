@@ -412,7 +412,7 @@ impl<P: Payload> Worker<P> {
                     }
                 }
                 // The first refusal of a job was in no turn, so it says nothing.
-                ffi::NO_REGION => key.into_iter().for_each(|key| self.room.event.wait(key)),
+                ffi::NO_REGION => key.into_iter().for_each(|key| self.room.event.wait(key, None)),
                 ffi::OLDER_JOB => std::thread::sleep(OLDER_JOB_PAUSE),
                 _ => pause(),
             }

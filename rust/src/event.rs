@@ -3,13 +3,19 @@
 //! It is that of `include/cubejobs_wait.h`. The header says why waiters make their exact takes one
 //! at a time, and why an event comes after each take and each release.
 
+#[cfg(feature = "regions")]
+use core::sync::atomic::AtomicBool;
 use core::sync::atomic::{AtomicU32, Ordering::SeqCst};
 use std::sync::{Condvar, Mutex, MutexGuard, PoisonError};
+use std::time::Instant;
 
 #[derive(Default)]
 pub struct Event {
     // Bit 0 is set while a thread may sleep, and the other bits count the raises.
     state: AtomicU32,
+    // Set before the raise that wakes the threads for it.
+    #[cfg(feature = "regions")]
+    is_stopped: AtomicBool,
     // Locked while a waiter makes its exact take.
     turn: Mutex<()>,
     // Locked between a waiter's look at the state and its sleep, and before it is woken.
@@ -38,6 +44,20 @@ impl Event {
         }
     }
 
+    /// Stops the event, and wakes each thread. A thread that does not wake by this call reads its
+    /// key after it, and then finds the event stopped.
+    #[cfg(feature = "regions")]
+    pub fn stop(&self) {
+        self.is_stopped.store(true, SeqCst);
+        self.raise();
+    }
+
+    /// Returns whether the event was stopped.
+    #[cfg(feature = "regions")]
+    pub fn is_stopped(&self) -> bool {
+        self.is_stopped.load(SeqCst)
+    }
+
     /// Makes a take as the only waiter. Returns what it returns, with the key from before it.
     pub fn in_turn<T>(&self, take: impl FnOnce() -> T) -> (T, u32) {
         let turn = lock(&self.turn);
@@ -47,11 +67,18 @@ impl Event {
         (taken, key)
     }
 
-    /// Sleeps until the event is raised. Returns at once if it was raised after the key was read.
-    pub fn wait(&self, key: u32) {
+    /// Sleeps until the event is raised, or until the deadline if there is one. Returns at once if
+    /// the event was raised after the key was read.
+    pub fn wait(&self, key: u32, deadline: Option<Instant>) {
         let mut sleep = lock(&self.sleep);
         while self.state.load(SeqCst) == key {
-            sleep = self.changed.wait(sleep).unwrap_or_else(PoisonError::into_inner);
+            sleep = match deadline.map(|it| it.saturating_duration_since(Instant::now())) {
+                None => self.changed.wait(sleep).unwrap_or_else(PoisonError::into_inner),
+                Some(left) if left.is_zero() => return,
+                Some(left) => {
+                    self.changed.wait_timeout(sleep, left).unwrap_or_else(PoisonError::into_inner).0
+                }
+            };
             #[cfg(test)]
             self.wakes.fetch_add(1, SeqCst);
         }

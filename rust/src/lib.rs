@@ -84,6 +84,8 @@ mod sharing;
 #[cfg(not(cubejobs_archives))]
 #[rustfmt::skip]
 mod source;
+#[cfg(all(feature = "regions", feature = "std"))]
+mod waiting;
 
 use core::error::Error;
 use core::fmt;

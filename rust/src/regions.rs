@@ -37,7 +37,8 @@
 //!
 //! [`Machine::take`] goes by hints, so its refusal says nothing. [`Machine::take_exact`] looks at
 //! each word before it refuses. With the feature `std`, [`Machine::take_or_wait`] sleeps until it
-//! gets a block. Without it, take again after a moment.
+//! gets a block, and [`Machine::take_timeout`] does so for at most some time.
+//! [`Machine::stop_waits`] ends all waits. Without the feature, take again after a moment.
 //!
 //! # What is not checked
 //!
@@ -48,11 +49,15 @@
 
 use crate::handles::Handles;
 use crate::regions_ffi::{self as ffi, BlockHandle};
+#[cfg(feature = "std")]
+use crate::waiting;
 use crate::Region;
 use alloc::sync::Arc;
 use core::borrow::Borrow;
 use core::error::Error;
 use core::fmt;
+#[cfg(feature = "std")]
+use std::time::{Duration, Instant};
 
 /// The largest dimension of a [`Machine`], which has at most `2^MAX_DIM` processors.
 pub const MAX_DIM: u32 = ffi::MAX_DIM;
@@ -100,6 +105,10 @@ pub enum TakeError {
     /// No block was found, and one may be free. A quick take had no more hints, or other calls won
     /// the exchanges.
     NotNow,
+    /// No block was found until the end of the given time.
+    TimedOut,
+    /// The machine's waits were stopped by [`Machine::stop_waits`].
+    Stopped,
 }
 
 /// What is free in a machine. Each word is read at some moment of the call.
@@ -159,7 +168,8 @@ impl Machine {
         Block::take_at(self, region)
     }
 
-    /// Takes a block of dimension `k`, and sleeps until it can. The error is `BadDimension`.
+    /// Takes a block of dimension `k`, and sleeps until it can. The error is the first of these
+    /// that applies: `Stopped`, `BadDimension`.
     ///
     /// A thread that waits for a large block may wait as long as others take small ones.
     ///
@@ -175,6 +185,53 @@ impl Machine {
     #[cfg(feature = "std")]
     pub fn take_or_wait(&self, k: u32) -> Result<Block<&Machine>, TakeError> {
         Block::take_or_wait(self, k)
+    }
+
+    /// Takes a block of dimension `k`, and sleeps until it can, but no longer than `timeout`. If
+    /// that is 0 it never sleeps. Any duration will do. The error is the first of these that
+    /// applies: `Stopped`, `BadDimension`, `TimedOut`.
+    ///
+    /// Before `TimedOut` it looks at each word once more, in turn with other threads that wait.
+    ///
+    /// ```
+    /// use cubejobs::regions::{Machine, TakeError};
+    /// use std::time::Duration;
+    ///
+    /// let machine = Machine::new(2)?;
+    /// let all = machine.take(2)?;
+    /// let refused = machine.take_timeout(1, Duration::from_millis(10));
+    /// assert_eq!(refused.unwrap_err(), TakeError::TimedOut);
+    /// drop(all);
+    /// assert!(machine.take_timeout(1, Duration::MAX).is_ok());
+    /// # Ok::<(), Box<dyn std::error::Error>>(())
+    /// ```
+    #[cfg(feature = "std")]
+    pub fn take_timeout(&self, k: u32, timeout: Duration) -> Result<Block<&Machine>, TakeError> {
+        Block::take_timeout(self, k, timeout)
+    }
+
+    /// Ends all waits for blocks of this machine, those of now and all later ones. They return
+    /// [`TakeError::Stopped`], also if a block is free. A wait that already has its block returns
+    /// it. Nothing makes a machine wait again. Calls that never sleep go on as before.
+    ///
+    /// So a program that shuts down calls this, and then joins its threads.
+    ///
+    /// ```
+    /// use cubejobs::regions::{Machine, TakeError};
+    ///
+    /// let machine = Machine::new(2)?;
+    /// let all = machine.take(2)?;
+    /// std::thread::scope(|scope| {
+    ///     let waiter = scope.spawn(|| machine.take_or_wait(1).map(drop));
+    ///     machine.stop_waits();
+    ///     assert_eq!(waiter.join().unwrap(), Err(TakeError::Stopped));
+    /// });
+    /// # drop(all);
+    /// # Ok::<(), Box<dyn std::error::Error>>(())
+    /// ```
+    #[cfg(feature = "std")]
+    pub fn stop_waits(&self) {
+        self.event.stop();
     }
 
     /// Counts the free blocks and the held processors. Each word is read at some moment of the
@@ -237,22 +294,21 @@ impl<M: Borrow<Machine>> Block<M> {
     /// Takes a block as [`Machine::take_or_wait`] does, of a machine by reference or by `Arc`.
     #[cfg(feature = "std")]
     pub fn take_or_wait(machine: M, k: u32) -> Result<Self, TakeError> {
-        let shared: &Machine = machine.borrow();
+        Self::take_until(machine, k, None)
+    }
+
+    /// Takes a block as [`Machine::take_timeout`] does, of a machine by reference or by `Arc`.
+    #[cfg(feature = "std")]
+    pub fn take_timeout(machine: M, k: u32, timeout: Duration) -> Result<Self, TakeError> {
+        // A time that no clock reaches has no end.
+        Self::take_until(machine, k, Instant::now().checked_add(timeout))
+    }
+
+    #[cfg(feature = "std")]
+    fn take_until(machine: M, k: u32, deadline: Option<Instant>) -> Result<Self, TakeError> {
+        let Machine { handles, event, .. } = machine.borrow();
         let mut handle = BlockHandle::EMPTY;
-        let mut answer = ffi::take(&mut shared.handles.borrow(), &mut handle, k);
-        // This is for the quick take. Waiters make their exact takes in turn, so these hide nothing
-        // from each other, whether they are granted or refused.
-        shared.raise();
-        while answer.code() == ffi::NO_ROOM || answer.code() == ffi::NOT_NOW {
-            let exact = || ffi::take_exact(&mut shared.handles.borrow(), &mut handle, k);
-            let (taken, key) = shared.event.in_turn(exact);
-            match taken.code() {
-                ffi::NO_ROOM => shared.event.wait(key),
-                ffi::NOT_NOW => std::thread::yield_now(),
-                _ => {}
-            }
-            answer = taken;
-        }
+        let answer = waiting::take(event, deadline, |take| take(&mut handles.borrow(), &mut handle, k))?;
         Self::granted(machine, handle, answer)
     }
 
@@ -362,6 +418,8 @@ impl fmt::Display for TakeError {
             TakeError::NoRoom => "a part of each block of this dimension was in use",
             TakeError::Taken => "a part of the block was in use",
             TakeError::NotNow => "no block was found, and one may be free",
+            TakeError::TimedOut => "no block was found in the given time",
+            TakeError::Stopped => "the waits of the machine were stopped",
         })
     }
 }

@@ -57,7 +57,7 @@ fn refusals_say_why() {
 #[test]
 fn each_error_has_a_sentence() {
     use TakeError::*;
-    let texts = [BadDimension, BadBase, NoRoom, Taken, NotNow].map(|it| it.to_string());
+    let texts = [BadDimension, BadBase, NoRoom, Taken, NotNow, TimedOut, Stopped].map(|it| it.to_string());
     for (number, text) in texts.iter().enumerate() {
         assert!(!text.is_empty() && !texts[..number].contains(text), "{text}");
     }
