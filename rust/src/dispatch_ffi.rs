@@ -71,6 +71,8 @@ impl<R, K> Handle<R, K> {
 
 // SAFETY: what a handle owns may go to another thread. This is proved of the library's own type.
 unsafe impl<R, K> Send for Handle<R, K> {}
+// SAFETY: no call takes a shared reference, so a thread can do nothing with one.
+unsafe impl<R, K> Sync for Handle<R, K> {}
 
 #[repr(C)]
 #[derive(Clone, Copy, Debug, PartialEq, Eq)]

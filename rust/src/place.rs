@@ -3,6 +3,7 @@
 use core::cell::UnsafeCell;
 use core::marker::PhantomData;
 use core::ops::{Deref, DerefMut};
+use core::panic::{RefUnwindSafe, UnwindSafe};
 use core::sync::atomic::{AtomicBool, Ordering::SeqCst};
 
 /// Lets other threads go on, before a call that they were in the way of is made again.
@@ -27,6 +28,11 @@ pub struct Place<T> {
 // SAFETY: only a `Borrowed` reaches the value by a shared reference, and there is one at a time. So
 // threads get the value in turn, as if it were sent.
 unsafe impl<T: Send> Sync for Place<T> {}
+
+// A value is borrowed for one call of a library, which never unwinds. So a panic elsewhere leaves
+// no value half changed.
+impl<T> UnwindSafe for Place<T> {}
+impl<T> RefUnwindSafe for Place<T> {}
 
 /// A borrowed value. It is given back when this is dropped.
 pub struct Borrowed<'a, T> {

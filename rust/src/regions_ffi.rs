@@ -41,6 +41,8 @@ impl Handle {
 
 // SAFETY: what a handle owns may go to another thread. This is proved of the library's own type.
 unsafe impl Send for Handle {}
+// SAFETY: by a shared reference a thread only reads the tag. A call of the library needs a `&mut`.
+unsafe impl Sync for Handle {}
 
 /// A handle of a block. It cannot be cloned or copied.
 #[repr(C)]

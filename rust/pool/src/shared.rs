@@ -16,6 +16,7 @@ use crate::spares::Spares;
 use crate::util::{drop_quietly, lock, Padded};
 use cubejobs::lanes::{Accepted, Lanes, Payload, Refused, SubmitError};
 use std::collections::BTreeMap;
+use std::panic::{RefUnwindSafe, UnwindSafe};
 use std::sync::atomic::{AtomicBool, AtomicUsize, Ordering::SeqCst};
 use std::sync::{Arc, Condvar, Mutex, PoisonError, Weak};
 use std::thread;
@@ -89,6 +90,10 @@ pub(crate) fn next_number() -> usize {
 pub(crate) fn pool_of(number: usize) -> Option<Arc<Shared>> {
     lock(&POOLS).get(&number)?.upgrade()
 }
+
+// The panic of a job is caught where the job is called, so it ends no call that changes what is here.
+impl UnwindSafe for Shared {}
+impl RefUnwindSafe for Shared {}
 
 impl Shared {
     /// Lists the pool, so that `pool_of` finds it.

@@ -1,0 +1,148 @@
+//! The auto traits of each public type. They are the same over the libraries and in plain Rust.
+
+use cubejobs::{dispatch, fit, lanes, regions, rounds};
+use std::cell::Cell;
+
+type Machine = &'static regions::Machine;
+/// What can be sent, and not shared.
+type Boxed = Box<Cell<u8>>;
+
+/// Whether a type is of a trait.
+macro_rules! is {
+    ($type:ty: $bound:path) => {{
+        #[allow(dead_code)] // one of the two constants is not read
+        trait Otherwise {
+            const IS: bool = false;
+        }
+        impl<T> Otherwise for T {}
+        struct Probe<T>(std::marker::PhantomData<T>);
+        #[allow(dead_code)]
+        impl<T: $bound> Probe<T> {
+            const IS: bool = true;
+        }
+        <Probe<$type>>::IS
+    }};
+}
+
+/// The name of each type, with the names of its auto traits.
+macro_rules! traits {
+    ($($type:ty,)*) => {
+        [$((
+            stringify!($type),
+            [
+                ("Send", is!($type: Send)),
+                ("Sync", is!($type: Sync)),
+                ("Unpin", is!($type: Unpin)),
+                ("UnwindSafe", is!($type: std::panic::UnwindSafe)),
+                ("RefUnwindSafe", is!($type: std::panic::RefUnwindSafe)),
+            ],
+        )),*]
+    };
+}
+
+type Traits = [(&'static str, bool); 5];
+
+/// Panics unless each type has exactly the traits that are not left out.
+fn must_lack(left_out: &[&str], types: &[(&str, Traits)]) {
+    for (name, traits) in types {
+        for (bound, is) in traits {
+            assert_eq!(*is, !left_out.contains(bound), "{name}: {bound}");
+        }
+    }
+}
+
+fn with_all() -> Vec<(&'static str, Traits)> {
+    let of_machines = traits![
+        cubejobs::Region,
+        cubejobs::Machine,
+        cubejobs::BadDimension,
+        cubejobs::TakeError,
+        cubejobs::ReleaseError,
+        fit::FirstFit<Vec<bool>>,
+        fit::OpenError,
+        fit::TakeError,
+        fit::ReleaseError,
+        rounds::Shape,
+        rounds::Collective,
+        rounds::CollectiveError,
+        rounds::Message,
+        rounds::Step,
+        rounds::Messages,
+        rounds::Steps,
+        regions::Machine,
+        regions::Block<Machine>,
+        regions::Held,
+        regions::OpenError,
+        regions::TakeError,
+        regions::Occupancy,
+        regions::StillHeld,
+    ];
+    let of_lanes = traits![
+        lanes::Sizes, lanes::Lanes<u64>, lanes::Lane<u64>, lanes::Worker<u64>, lanes::Jobs<u64>,
+        lanes::Job<u64>, lanes::Accepted, lanes::Refused<lanes::SubmitError, u64>, lanes::Finding<u64>,
+        lanes::Found<u64>, lanes::Rest<u64>, lanes::StillOut<lanes::Lanes<u64>>, lanes::OpenError,
+        lanes::DealError, lanes::SubmitError, lanes::TakeError, lanes::Out, lanes::SharedLane<u64>,
+        lanes::SharedError, dispatch::Dispatcher<u64>, dispatch::Lane<u64>, dispatch::Worker<u64>,
+        dispatch::Rest<u64>, dispatch::OpenError, dispatch::SubmitError, dispatch::NextError,
+        lanes::Lanes<Boxed>, lanes::Lane<Boxed>, lanes::SharedLane<Boxed>, lanes::Worker<Boxed>,
+        lanes::Jobs<Boxed>, lanes::Rest<Boxed>, lanes::StillOut<lanes::Lanes<Boxed>>,
+        dispatch::Dispatcher<Boxed>, dispatch::Lane<Boxed>, dispatch::Worker<Boxed>,
+        dispatch::Rest<Boxed>,
+    ];
+    of_machines.into_iter().chain(of_lanes).collect()
+}
+
+/// What runs borrows its worker as a `&mut` does.
+fn of_running_jobs() -> Vec<(&'static str, Traits)> {
+    let found = traits![
+        dispatch::Running<'static, u64>,
+        dispatch::Block<'static, u64>,
+        dispatch::Finding<'static, u64>,
+        dispatch::Found<'static, u64>,
+    ];
+    found.to_vec()
+}
+
+#[test]
+fn each_type_has_its_auto_traits() {
+    must_lack(&[], &with_all());
+    must_lack(&["UnwindSafe"], &of_running_jobs());
+    // A payload that a job has is as it is elsewhere.
+    must_lack(
+        &["Sync", "RefUnwindSafe"],
+        &traits![
+            lanes::Job<Boxed>, lanes::Refused<lanes::SubmitError, Boxed>, lanes::Finding<Boxed>,
+            lanes::Found<Boxed>,
+        ],
+    );
+    must_lack(&["Sync", "UnwindSafe", "RefUnwindSafe"], &traits![dispatch::Running<'static, Boxed>,]);
+}
+
+#[test]
+fn no_public_type_is_left_out() {
+    let files = [
+        ("cubejobs", include_str!("../src/lib.rs")),
+        ("cubejobs", include_str!("../src/region.rs")),
+        ("fit", include_str!("../src/fit.rs")),
+        ("rounds", include_str!("../src/rounds.rs")),
+        ("regions", include_str!("../src/regions.rs")),
+        ("lanes", include_str!("../src/lanes.rs")),
+        ("lanes", include_str!("../src/sharing.rs")),
+        ("dispatch", include_str!("../src/dispatch.rs")),
+    ];
+    let known: Vec<&str> = with_all().into_iter().chain(of_running_jobs()).map(|it| it.0).collect();
+    let mut count = 0;
+    for (module, text) in files {
+        for line in text.lines() {
+            let Some(rest) = line.strip_prefix("pub struct ").or(line.strip_prefix("pub enum ")) else {
+                continue;
+            };
+            let end = rest.find(|it: char| !it.is_alphanumeric()).unwrap();
+            let name = format!("{module}::{}", &rest[..end]);
+            let is_known = |it: &&str| it.split('<').next().unwrap().trim() == name;
+            assert!(known.iter().any(is_known), "no test of the auto traits of {name}");
+            count += 1;
+        }
+    }
+    assert!(count > 40, "only {count} types were found");
+}
