@@ -10,6 +10,23 @@
 //! drop(block);
 //! ```
 //!
+//! No handle outlives the machine that it borrows:
+//!
+//! ```compile_fail,E0505
+//! let machine = cubejobs::regions::Machine::new(4).unwrap();
+//! let mut handle = machine.handle().unwrap();
+//! let _ = machine.close();
+//! let _ = handle.take(1);
+//! ```
+//!
+//! A handle is of one thread at a time:
+//!
+//! ```compile_fail,E0596
+//! fn take(handle: &cubejobs::regions::Handle<&cubejobs::regions::Machine>) {
+//!     let _ = handle.take(1);
+//! }
+//! ```
+//!
 //! A block is released once:
 //!
 //! ```compile_fail,E0382

@@ -1,12 +1,11 @@
 //! The handles of a machine of regions. A call borrows one that no other call has.
 //!
 //! The library allows one call at a time with a handle, and blocks may be dropped by any thread. So
-//! no handle belongs to a thread. A thread usually borrows the same one, which no other thread
+//! no handle here belongs to a thread. A thread usually borrows the same one, which no other thread
 //! wants.
 
-use crate::place::{Apart, Borrowed, Place};
+use crate::place::{pause, Apart, Borrowed, Place};
 use crate::regions_ffi::{self as ffi, Handle};
-use core::hint::spin_loop;
 
 /// The number of handles of a machine, besides the first. A call waits only while the calls of
 /// this many other threads are in progress.
@@ -42,7 +41,16 @@ impl Handles {
             if let Some(borrowed) = self.first.borrow() {
                 return borrowed;
             }
-            spin_loop();
+            pause();
+        }
+    }
+
+    /// Opens a handle that is none of these. Returns it, or the code of the refusal.
+    pub fn another(&self) -> Result<Handle, u32> {
+        let mut another = Handle::SHUT;
+        match ffi::share(&mut self.first.wait(), &mut another) {
+            ffi::DONE => Ok(another),
+            code => Err(code),
         }
     }
 
@@ -59,14 +67,16 @@ impl Handles {
         Some(borrowed)
     }
 
-    /// Shuts all handles, which frees the machine. Returns `false`, and keeps the first handle
-    /// open, if a block is held.
+    /// Shuts all handles, which frees the machine, unless a thread has forgotten a handle of its
+    /// own. Returns `false`, and keeps the first handle open, if a block is held.
     pub fn free(&mut self) -> bool {
         for place in &mut self.others {
             ffi::free(place.get_mut());
             *place = Apart(Place::new(Handle::SHUT));
         }
-        ffi::free(self.first.get_mut()) == ffi::DONE
+        let first = self.first.get_mut();
+        // If another handle is open, a free does not look for held blocks.
+        ffi::occupancy(first).held == 0 && ffi::free(first) == ffi::DONE
     }
 }
 

@@ -60,6 +60,8 @@ mod forbidden;
 mod handles;
 #[cfg(feature = "dispatch")]
 pub mod lanes;
+#[cfg(feature = "regions")]
+mod own_handle;
 #[cfg(all(feature = "dispatch", feature = "std"))]
 mod parking;
 #[cfg(feature = "dispatch")]

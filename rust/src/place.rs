@@ -7,7 +7,6 @@ use core::panic::{RefUnwindSafe, UnwindSafe};
 use core::sync::atomic::{AtomicBool, Ordering::SeqCst};
 
 /// Lets other threads go on, before a call that they were in the way of is made again.
-#[cfg(feature = "dispatch")]
 pub fn pause() {
     #[cfg(feature = "std")]
     std::thread::yield_now();
@@ -58,7 +57,6 @@ impl<T> Place<T> {
     }
 
     /// Borrows the value, and waits until it can.
-    #[cfg(feature = "dispatch")]
     pub fn wait(&self) -> Borrowed<'_, T> {
         loop {
             match self.borrow() {

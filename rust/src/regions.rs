@@ -1,5 +1,5 @@
-//! Lock-free allocation of any number of aligned blocks for any number of threads: safe Rust over
-//! the library `cubejobs_regions`.
+//! Allocation of any number of aligned blocks for any number of threads: safe Rust over the library
+//! `cubejobs_regions`, which is lock-free.
 //!
 //! A [`Machine`] has `2^n` processors. Threads share it by reference or by `Arc`. A take returns a
 //! [`Block`], a guard that releases its block when it is dropped. Any thread may drop it. Blocks
@@ -33,6 +33,14 @@
 //! # Ok::<(), Box<dyn std::error::Error>>(())
 //! ```
 //!
+//! # Which calls are lock-free
+//!
+//! The library wants one call at a time with each of its handles. A [`Machine`] has 33, which all
+//! threads share. Each call, and each drop of a [`Block`], borrows one that is not in use, by a
+//! flag. A call waits while 33 others are in progress. So if 33 threads are stopped in their calls,
+//! all others wait for them: these calls are *not* lock-free. [`Machine::handle`] gives a thread a
+//! [`Handle`] of its own. Its calls need no flag, and are lock-free.
+//!
 //! # When to take again
 //!
 //! [`Machine::take`] goes by hints, so its refusal says nothing. [`Machine::take_exact`] looks at
@@ -48,6 +56,7 @@
 //! and no theorem says so.
 
 use crate::handles::Handles;
+pub use crate::own_handle::Handle;
 use crate::regions_ffi::{self as ffi, BlockHandle};
 #[cfg(feature = "std")]
 use crate::waiting;
@@ -62,27 +71,32 @@ use std::time::{Duration, Instant};
 /// The largest dimension of a [`Machine`], which has at most `2^MAX_DIM` processors.
 pub const MAX_DIM: u32 = ffi::MAX_DIM;
 
-/// A machine. Any thread may call it. [`Machine::new`] allocates, and so does the first call of
-/// each thread; no other call does.
+/// A machine. Any thread may call it. Each call borrows one of 33 handles, and waits while all are
+/// borrowed: [`Machine::handle`] returns one that is not shared. See the
+/// [module](self#which-calls-are-lock-free).
+///
+/// [`Machine::new`] and [`Machine::handle`] allocate. Of all other calls for a machine at most 32
+/// do, each of which is the first to borrow one of the handles. If memory runs out in such a call,
+/// it borrows another handle.
 pub struct Machine {
-    handles: Handles,
+    pub(crate) handles: Handles,
     dim: u32,
     #[cfg(feature = "std")]
-    event: crate::event::Event,
+    pub(crate) event: crate::event::Event,
 }
 
 /// A held block, with its machine by reference or by `Arc`. Dropping this guard releases the block.
 #[must_use = "the block is released at once if the guard is dropped"]
 pub struct Block<M: Borrow<Machine>> {
     machine: M,
-    handle: BlockHandle,
+    pub(crate) handle: BlockHandle,
     region: Region,
 }
 
 /// A held block that shares its machine. It can be stored.
 pub type Held = Block<Arc<Machine>>;
 
-/// The reason why a machine was not opened.
+/// The reason why a machine or a handle was not opened.
 #[derive(Clone, Copy, Debug, PartialEq, Eq)]
 pub enum OpenError {
     /// The dimension is above [`MAX_DIM`].
@@ -147,6 +161,15 @@ impl Machine {
     /// Returns the dimension of the machine.
     pub fn dim(&self) -> u32 {
         self.dim
+    }
+
+    /// Opens a handle for one thread. Its calls are lock-free, since no other thread has it. See
+    /// [`Handle`].
+    ///
+    /// # Errors
+    /// `OutOfMemory`.
+    pub fn handle(&self) -> Result<Handle<&Machine>, OpenError> {
+        Handle::new(self)
     }
 
     /// Takes a block of dimension `k` the quick way, by hints about full words. The error is
@@ -237,13 +260,12 @@ impl Machine {
     /// Counts the free blocks and the held processors. Each word is read at some moment of the
     /// call, so the counts are exact if no other call runs meanwhile.
     pub fn occupancy(&self) -> Occupancy {
-        let answer = ffi::occupancy(&mut self.handles.borrow());
-        let largest = answer.has_free.then_some(answer.largest);
-        Occupancy { free: answer.free, held: answer.held, largest }
+        Occupancy::of(&mut self.handles.borrow())
     }
 
     /// Frees the memory of the machine. A drop does so too, but it cannot say that a guard was
-    /// forgotten. Then the memory is never freed.
+    /// forgotten. Then the memory is never freed. A [`Handle`] that was forgotten keeps the memory
+    /// too, which is no error.
     #[allow(clippy::result_large_err)] // it is called once
     pub fn close(mut self) -> Result<(), StillHeld> {
         if self.handles.free() {
@@ -254,7 +276,7 @@ impl Machine {
     }
 
     /// Makes an event of a call that has ended: a waiter may succeed now.
-    fn raise(&self) {
+    pub(crate) fn raise(&self) {
         #[cfg(feature = "std")]
         self.event.raise();
     }
@@ -263,6 +285,15 @@ impl Machine {
 impl Drop for Machine {
     fn drop(&mut self) {
         self.handles.free();
+    }
+}
+
+impl Occupancy {
+    /// Counts by a handle of the library.
+    pub(crate) fn of(thread: &mut ffi::Handle) -> Self {
+        let answer = ffi::occupancy(thread);
+        let largest = answer.has_free.then_some(answer.largest);
+        Occupancy { free: answer.free, held: answer.held, largest }
     }
 }
 
@@ -300,8 +331,7 @@ impl<M: Borrow<Machine>> Block<M> {
     /// Takes a block as [`Machine::take_timeout`] does, of a machine by reference or by `Arc`.
     #[cfg(feature = "std")]
     pub fn take_timeout(machine: M, k: u32, timeout: Duration) -> Result<Self, TakeError> {
-        // A time that no clock reaches has no end.
-        Self::take_until(machine, k, Instant::now().checked_add(timeout))
+        Self::take_until(machine, k, waiting::deadline_of(timeout))
     }
 
     #[cfg(feature = "std")]
@@ -319,13 +349,29 @@ impl<M: Borrow<Machine>> Block<M> {
 
     /// Splits the block into its lower and its upper half. Returns the block itself if it has one
     /// processor.
-    pub fn split(mut self) -> Result<(Self, Self), Self>
+    pub fn split(self) -> Result<(Self, Self), Self>
+    where
+        M: Clone,
+    {
+        self.split_by(None)
+    }
+
+    /// Joins the lower and the upper half of a block. Returns the two if they are not that.
+    pub fn join(self, upper: Self) -> Result<Self, (Self, Self)> {
+        self.join_by(upper, None)
+    }
+
+    /// Splits the block by a handle of the thread, or else by one that is not in use.
+    pub(crate) fn split_by(mut self, thread: Option<&mut ffi::Handle>) -> Result<(Self, Self), Self>
     where
         M: Clone,
     {
         let mut half = BlockHandle::EMPTY;
-        let handles = &self.machine.borrow().handles;
-        let code = ffi::split(&mut handles.borrow(), &mut self.handle, &mut half);
+        let mut split = |thread: &mut _| ffi::split(thread, &mut self.handle, &mut half);
+        let code = match thread {
+            Some(thread) => split(thread),
+            None => split(&mut self.machine.borrow().handles.borrow()),
+        };
         if code != ffi::DONE {
             return Err(self);
         }
@@ -335,10 +381,17 @@ impl<M: Borrow<Machine>> Block<M> {
         Ok((self, upper))
     }
 
-    /// Joins the lower and the upper half of a block. Returns the two if they are not that.
-    pub fn join(mut self, mut upper: Self) -> Result<Self, (Self, Self)> {
-        let handles = &self.machine.borrow().handles;
-        let code = ffi::join(&mut handles.borrow(), &mut self.handle, &mut upper.handle);
+    /// Joins two halves by a handle of the thread, or else by one that is not in use.
+    pub(crate) fn join_by(
+        mut self,
+        mut upper: Self,
+        thread: Option<&mut ffi::Handle>,
+    ) -> Result<Self, (Self, Self)> {
+        let mut join = |thread: &mut _| ffi::join(thread, &mut self.handle, &mut upper.handle);
+        let code = match thread {
+            Some(thread) => join(thread),
+            None => join(&mut self.machine.borrow().handles.borrow()),
+        };
         if code != ffi::DONE {
             return Err((self, upper));
         }
@@ -347,13 +400,13 @@ impl<M: Borrow<Machine>> Block<M> {
     }
 
     /// Raises the event, and returns what [`Block::granted`] does.
-    fn taken(machine: M, handle: BlockHandle, answer: ffi::Answer) -> Result<Self, TakeError> {
+    pub(crate) fn taken(machine: M, handle: BlockHandle, answer: ffi::Answer) -> Result<Self, TakeError> {
         machine.borrow().raise();
         Self::granted(machine, handle, answer)
     }
 
     /// Returns the guard of what a take got, or why it was refused.
-    fn granted(machine: M, handle: BlockHandle, answer: ffi::Answer) -> Result<Self, TakeError> {
+    pub(crate) fn granted(machine: M, handle: BlockHandle, answer: ffi::Answer) -> Result<Self, TakeError> {
         match answer.code() {
             ffi::DONE => {
                 let region = Region { base: answer.base, dim: answer.dim() };
@@ -376,8 +429,11 @@ fn region_of(handle: &BlockHandle) -> Region {
 
 impl<M: Borrow<Machine>> Drop for Block<M> {
     fn drop(&mut self) {
+        // A join or a handle of a thread may have emptied it.
+        if self.handle.is_empty() {
+            return;
+        }
         let machine = self.machine.borrow();
-        // It is refused if a join has emptied the handle.
         ffi::release(&mut machine.handles.borrow(), &mut self.handle);
         machine.raise();
     }
@@ -437,9 +493,11 @@ impl Error for StillHeld {}
 #[cfg(all(test, feature = "std"))]
 mod tests {
     use super::Machine;
+    use super::TakeError::NotNow;
     use core::sync::atomic::{AtomicBool, Ordering::SeqCst};
     use core::time::Duration;
     use std::thread;
+    use std::vec::Vec;
 
     const WAITERS: u64 = 8;
 
@@ -461,6 +519,26 @@ mod tests {
             thread::sleep(Duration::from_millis(100));
             assert!(wakes() <= most + WAITERS, "{} wakes after one more take", wakes());
             drop(block);
+        });
+    }
+
+    #[test]
+    fn only_a_handle_of_a_thread_needs_no_shared_one() {
+        let machine = Machine::new(2).unwrap();
+        let mut handle = machine.handle().unwrap();
+        let block = machine.take(0).unwrap();
+        let mut all: Vec<_> = (0..33).map(|_| machine.handles.borrow()).collect();
+        handle.release(block).unwrap();
+        let (lower, upper) = handle.take(2).and_then(|it| handle.split(it).map_err(|_| NotNow)).unwrap();
+        let whole = handle.join(lower, upper).unwrap();
+        assert_eq!(handle.occupancy().held, 4);
+        handle.release(whole).unwrap();
+        thread::scope(|scope| {
+            let call = scope.spawn(|| machine.occupancy().held);
+            thread::sleep(Duration::from_millis(100));
+            assert!(!call.is_finished(), "a call has not waited for a handle");
+            all.pop();
+            assert_eq!(call.join().unwrap(), 0);
         });
     }
 

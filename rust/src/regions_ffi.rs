@@ -53,6 +53,11 @@ pub struct BlockHandle {
 
 impl BlockHandle {
     pub const EMPTY: BlockHandle = BlockHandle { tag: 0, machine: 0 };
+
+    /// Returns whether it has held nothing yet, or a call has emptied it.
+    pub fn is_empty(&self) -> bool {
+        self.tag == 0
+    }
 }
 
 #[repr(C)]

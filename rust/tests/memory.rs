@@ -11,7 +11,7 @@ use std::cell::Cell;
 use std::ffi::c_void;
 use std::fmt::Debug;
 use std::sync::atomic::{AtomicI64, Ordering::SeqCst};
-use std::sync::Arc;
+use std::sync::{Arc, Barrier, Mutex};
 use std::thread;
 
 extern "C" {
@@ -161,6 +161,52 @@ fn refused_requests_are_errors() {
     assert_eq!(LIVE.load(SeqCst), 0);
 }
 
+fn at_most_32_calls_of_a_machine_allocate() {
+    const THREADS: usize = 64;
+    let machine = counting(|| Machine::new(3).unwrap());
+    let (all, allocated) = (Barrier::new(THREADS), AtomicI64::new(0));
+    let turn = Mutex::new(());
+    thread::scope(|scope| {
+        for _ in 0..THREADS {
+            scope.spawn(|| {
+                // All threads live at once, so that each has a stack of its own. They call in turn.
+                all.wait();
+                for _ in 0..2 {
+                    let _turn = turn.lock().unwrap();
+                    let before = LIVE.load(SeqCst);
+                    counting(|| drop(machine.take_exact(0).unwrap()));
+                    allocated.fetch_add((LIVE.load(SeqCst) > before).into(), SeqCst);
+                }
+            });
+        }
+    });
+    let allocated = allocated.into_inner();
+    assert!((2..=32).contains(&allocated), "{allocated} calls have allocated");
+    counting(|| drop(machine));
+    assert_eq!(LIVE.load(SeqCst), 0);
+}
+
+fn handles_of_threads_leave_no_memory_behind() {
+    let machine = counting(|| Machine::new(3).unwrap());
+    let (mut handle, requests) = refuse_each(OpenError::OutOfMemory, || machine.handle());
+    assert!(requests > 0, "a handle takes no memory");
+    with_requests(0, || {
+        let block = handle.take(3).unwrap();
+        assert_eq!(handle.take_exact(0).unwrap_err(), TakeError::NoRoom);
+        let (lower, upper) = handle.split(block).unwrap();
+        let whole = handle.join(lower, upper).unwrap();
+        handle.release(whole).unwrap();
+        drop(handle);
+    });
+    let before = LIVE.load(SeqCst);
+    for _ in 0..100 {
+        counting(|| drop(machine.handle().unwrap()));
+        assert_eq!(LIVE.load(SeqCst), before);
+    }
+    counting(|| drop(machine));
+    assert_eq!(LIVE.load(SeqCst), 0);
+}
+
 const SIZES: Sizes = Sizes { lanes: 2, workers: 2, capacity: 4 };
 
 fn lanes_leave_no_memory_behind() {
@@ -254,6 +300,8 @@ fn refused_requests_of_a_dispatcher_are_errors() {
 fn memory() {
     blocks_leave_no_memory_behind();
     refused_requests_are_errors();
+    at_most_32_calls_of_a_machine_allocate();
+    handles_of_threads_leave_no_memory_behind();
     lanes_leave_no_memory_behind();
     a_dispatcher_leaves_no_memory_behind();
     refused_requests_of_lanes_are_errors();

@@ -32,6 +32,11 @@ impl Handle {
 impl BlockHandle {
     pub const EMPTY: BlockHandle =
         BlockHandle { tag: 0, machine: 0, seat: source::hidden_seat::HiddenSeat {} };
+
+    /// Returns whether it has held nothing yet, or a call has emptied it.
+    pub fn is_empty(&self) -> bool {
+        self.tag == 0
+    }
 }
 
 impl Answer {
