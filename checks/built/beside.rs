@@ -13,6 +13,8 @@ mod ffi;
 mod fit_ffi;
 #[path = "../../rust/src/place.rs"]
 mod place;
+#[path = "../../rust/src/region.rs"]
+mod region;
 #[path = "../../rust/src/regions_ffi.rs"]
 mod regions_ffi;
 #[path = "../../rust/src/rounds_ffi.rs"]
@@ -23,6 +25,7 @@ mod shared;
 #[rustfmt::skip]
 mod source;
 
+use region::Region;
 use source::kit::alloc::Global;
 use source::kit::opaque::Opaque;
 use source::{
@@ -223,7 +226,8 @@ impl Regions {
 
     fn open(&mut self, at: usize, dim: u32, number: u64) {
         let code = blocks::cubejobs_regions_open_version(&mut self.other[at], blocks::VERSION, dim, number);
-        same!("open", regions_ffi::open(&mut self.one[at], dim), code);
+        let opened = regions_ffi::open(&mut self.one[at], dim);
+        same!("open", opened.err().unwrap_or(regions_ffi::DONE), code);
     }
 
     /// Makes one of the calls with a block, by a thread's handle of a machine.

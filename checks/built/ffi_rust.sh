@@ -62,6 +62,7 @@ jobs='40 jobs ran on 248 processors in all'
 subcubes='0 4, then: no free subcube of this dimension'
 groups='3000 jobs on groups of 16 workers'
 blocks='4000 blocks with 24800 processors in all'
+global_alloc='59452000 bytes in vectors, and each had one owner'
 
 quiet cargo test --offline
 for features in '' dispatch 'dispatch std' regions 'regions std' 'dispatch regions'; do
@@ -76,6 +77,7 @@ quiet cargo doc --offline --no-deps
 shows "$subcubes" cargo run --quiet --offline --example subcubes
 shows "$groups" cargo run --quiet --offline --example groups
 shows "$blocks" cargo run --quiet --offline --example blocks
+shows "$global_alloc" cargo run --quiet --offline --example global_alloc
 shows "$jobs" cargo run --quiet --offline --example jobs
 shows 55 cargo run --quiet --offline --example park
 awk 'BEGIN { for (i = 0; i < 60; i++) print i % 5, i * 7 % 20 }' > "$work/jobs"
@@ -133,6 +135,7 @@ quiet cargo doc --offline --no-deps --features source
 shows "$subcubes" cargo run --quiet --offline --features source --example subcubes
 shows "$groups" cargo run --quiet --offline --features source --example groups
 shows "$blocks" cargo run --quiet --offline --features source --example blocks
+shows "$global_alloc" cargo run --quiet --offline --features source --example global_alloc
 shows "$jobs" cargo run --quiet --offline --features source --example jobs
 shows 55 cargo run --quiet --offline --features source --example park
 quiet cargo test --offline -p cubejobs-pool --features cubejobs/source

@@ -22,11 +22,13 @@ from checks.source import version
 # The examples in C and C++ that end by themselves, with the words that they need. Their output is beside them.
 EXAMPLES = ("arena.c", "blocks.cpp", "fit.c", "jobs.cpp", "lanes.c", "regions.c", "rounds.c", "subcubes.c", "wait.c")
 # The examples in Rust, with what each prints. In `blocks` there are 800 blocks each of 1, 2, 4, 8 and 16 processors, and
-# in `park` the payloads 1 to 10 are added up.
+# in `park` the payloads 1 to 10 are added up. In `global_alloc` each of 4 threads makes vectors of 1 + 7t mod 3000 bytes for
+# each t below 10,000.
 IN_RUST = {
     "jobs": "40 jobs ran on 248 processors in all\n", "subcubes": "0 4, then: no free subcube of this dimension\n",
     "groups": "3000 jobs on groups of 16 workers\n", "blocks": "4000 blocks with 24800 processors in all\n",
-    "park": "55\n", "batch": "40 jobs have ended, and 0 are left\n"}
+    "park": "55\n", "batch": "40 jobs have ended, and 0 are left\n",
+    "global_alloc": "59452000 bytes in vectors, and each had one owner\n"}
 # The form of the package, by its feature.
 FORMS = {"": "over the libraries", "source": "as plain Rust"}
 CMAKE = """cmake_minimum_required(VERSION 3.13)

@@ -16,17 +16,16 @@ const COUNT: usize = 32;
 pub struct Handles {
     first: Apart<Place<Handle>>,
     others: [Apart<Place<Handle>>; COUNT],
+    /// The number of the machine.
+    pub number: u64,
 }
 
 impl Handles {
     /// Opens a machine. Returns its handles, or the code of the refusal.
     pub fn open(dim: u32) -> Result<Self, u32> {
-        let first = Apart(Place::new(Handle::SHUT));
-        let mut handles = Handles { first, others: [const { Apart(Place::new(Handle::SHUT)) }; COUNT] };
-        match ffi::open(handles.first.get_mut(), dim) {
-            ffi::DONE => Ok(handles),
-            code => Err(code),
-        }
+        let mut first = Apart(Place::new(Handle::SHUT));
+        let number = ffi::open(first.get_mut(), dim)?;
+        Ok(Handles { first, others: [const { Apart(Place::new(Handle::SHUT)) }; COUNT], number })
     }
 
     /// Borrows a handle: the thread's usual one, or the next that no other call has.

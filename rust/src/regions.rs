@@ -33,6 +33,12 @@
 //! # Ok::<(), Box<dyn std::error::Error>>(())
 //! ```
 //!
+//! # Blocks as two numbers
+//!
+//! An allocator of memory gets an address back, and no guard. [`Block::into_raw`] makes a guard a
+//! [`Region`], which stays held. [`Block::from_raw`] makes a guard of it again. The example
+//! `global_alloc` is an allocator for a whole program.
+//!
 //! # Which calls are lock-free
 //!
 //! The library wants one call at a time with each of its handles. A [`Machine`] has 33, which all
@@ -136,7 +142,8 @@ pub struct Occupancy {
     pub largest: Option<u32>,
 }
 
-/// The error of a machine that was not closed: a guard of it was forgotten ([`core::mem::forget`]).
+/// The error of a machine that was not closed: a block of it is held and has no guard. The guard
+/// was made a region ([`Block::into_raw`]), or was forgotten ([`core::mem::forget`]).
 pub struct StillHeld {
     /// The machine.
     pub machine: Machine,
@@ -263,8 +270,8 @@ impl Machine {
         Occupancy::of(&mut self.handles.borrow())
     }
 
-    /// Frees the memory of the machine. A drop does so too, but it cannot say that a guard was
-    /// forgotten. Then the memory is never freed. A [`Handle`] that was forgotten keeps the memory
+    /// Frees the memory of the machine. A drop does so too, but it cannot say that a block is held.
+    /// Then the memory is never freed. A [`Handle`] that was forgotten keeps the memory
     /// too, which is no error.
     #[allow(clippy::result_large_err)] // it is called once
     pub fn close(mut self) -> Result<(), StillHeld> {
@@ -345,6 +352,41 @@ impl<M: Borrow<Machine>> Block<M> {
     /// Returns the held block.
     pub fn region(&self) -> Region {
         self.region
+    }
+
+    /// Ends the guard, and returns the block, which stays held. Only [`Block::from_raw`] makes a
+    /// guard of it again. Until then [`Machine::close`] returns [`StillHeld`].
+    ///
+    /// ```
+    /// use cubejobs::regions::{Block, Machine};
+    ///
+    /// let machine = Machine::new(4)?;
+    /// let region = machine.take(2)?.into_raw();
+    /// assert_eq!(machine.occupancy().held, 4);
+    /// // SAFETY: the region is of a block of this machine, and this is its first guard since.
+    /// drop(unsafe { Block::from_raw(&machine, region) });
+    /// assert_eq!(machine.occupancy().held, 0);
+    /// # Ok::<(), Box<dyn std::error::Error>>(())
+    /// ```
+    #[must_use = "the block is held until it is a guard again"]
+    pub fn into_raw(mut self) -> Region {
+        self.handle = BlockHandle::EMPTY;
+        self.region
+    }
+
+    /// Makes the guard of a block again. The machine may be given by another reference than before,
+    /// or by an `Arc`.
+    ///
+    /// # Safety
+    /// [`Block::into_raw`] has returned this region for a block of this machine. No guard was made
+    /// of it since. A part of a region is no such region, and neither are two halves together.
+    ///
+    /// A debug build panics if the machine has no such block.
+    pub unsafe fn from_raw(machine: M, region: Region) -> Self {
+        let Machine { handles, dim, .. } = machine.borrow();
+        debug_assert!(region.dim <= *dim && region.range().end <= 1 << dim, "{region} is no block");
+        let handle = BlockHandle::of_held(region, *dim, handles.number);
+        Block { machine, handle, region }
     }
 
     /// Splits the block into its lower and its upper half. Returns the block itself if it has one
@@ -482,7 +524,7 @@ impl fmt::Display for TakeError {
 
 impl fmt::Display for StillHeld {
     fn fmt(&self, f: &mut fmt::Formatter<'_>) -> fmt::Result {
-        f.write_str("a block is held whose guard was forgotten")
+        f.write_str("a block is held that has no guard")
     }
 }
 
@@ -492,8 +534,8 @@ impl Error for StillHeld {}
 
 #[cfg(all(test, feature = "std"))]
 mod tests {
-    use super::Machine;
     use super::TakeError::NotNow;
+    use super::{Block, Machine, Region};
     use core::sync::atomic::{AtomicBool, Ordering::SeqCst};
     use core::time::Duration;
     use std::thread;
@@ -540,6 +582,24 @@ mod tests {
             all.pop();
             assert_eq!(call.join().unwrap(), 0);
         });
+    }
+
+    #[test]
+    fn a_rebuilt_handle_has_the_bytes_of_the_first() {
+        for dim in [0, 1, 5, 6, 7, 12, 20] {
+            let machine = Machine::new(dim).unwrap();
+            for k in 0..=dim {
+                for number in [0, (1 << (dim - k)) / 3, (1 << (dim - k)) - 1] {
+                    let region = Region { base: number << k, dim: k };
+                    let block = machine.take_at(region).unwrap();
+                    let words = block.handle.words();
+                    // SAFETY: the region was given by this machine, and has no guard.
+                    let again = unsafe { Block::from_raw(&machine, block.into_raw()) };
+                    assert_eq!((again.handle.words(), again.region()), (words, region));
+                }
+            }
+            machine.close().unwrap();
+        }
     }
 
     #[test]

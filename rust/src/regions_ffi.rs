@@ -2,8 +2,10 @@
 //!
 //! Each function here takes its handles by `&mut`. A handle is shut or empty when it is made, and
 //! its fields are private. So the calls with one handle come one at a time, and only the library
-//! writes to it.
+//! writes to it. [`BlockHandle::of_held`] alone makes a handle that holds a block: one that the
+//! library has filled before, with the same bytes.
 
+use crate::Region;
 use core::mem::size_of;
 use core::ptr;
 use core::sync::atomic::{AtomicU64, Ordering::SeqCst};
@@ -19,6 +21,9 @@ pub const BAD_DIMENSION: u32 = 3;
 pub const BAD_BASE: u32 = 4;
 pub const TAKEN: u32 = 5;
 pub const OUT_OF_MEMORY: u32 = 11;
+
+/// The upper half of the tag of a handle that holds a block: `HELD` of `cubejobs_regions`.
+const HELD: u64 = 0x7265_6769;
 
 /// The number of the next machine. No other machine of the program has it: those of C begin at 1.
 static NEXT: AtomicU64 = AtomicU64::new(1 << 63);
@@ -53,6 +58,14 @@ pub struct BlockHandle {
 
 impl BlockHandle {
     pub const EMPTY: BlockHandle = BlockHandle { tag: 0, machine: 0 };
+
+    /// Makes the handle of a block that is held, and that no other handle holds. The machine is of
+    /// this dimension and number.
+    pub fn of_held(region: Region, dim: u32, machine: u64) -> BlockHandle {
+        let place = (HELD << MAX_DIM) + region.base;
+        let tag = (place * 64 + u64::from(region.dim)) * 64 + u64::from(dim);
+        BlockHandle { tag, machine }
+    }
 
     /// Returns whether it has held nothing yet, or a call has emptied it.
     pub fn is_empty(&self) -> bool {
@@ -108,11 +121,15 @@ unsafe extern "C" {
     fn cubejobs_regions_free(thread: &mut Handle) -> u32;
 }
 
-pub fn open(thread: &mut Handle, dim: u32) -> u32 {
+/// Opens a machine. Returns its number, or the code of the refusal.
+pub fn open(thread: &mut Handle, dim: u32) -> Result<u64, u32> {
     let number = NEXT.fetch_add(1, SeqCst);
     // SAFETY: the reference is to a whole handle. Only the library has written to it since it was
     // made. No other machine has this number.
-    unsafe { cubejobs_regions_open_version(thread, VERSION, dim, number) }
+    match unsafe { cubejobs_regions_open_version(thread, VERSION, dim, number) } {
+        DONE => Ok(number),
+        code => Err(code),
+    }
 }
 
 pub fn share(thread: &mut Handle, other: &mut Handle) -> u32 {
@@ -163,4 +180,11 @@ pub fn occupancy(thread: &mut Handle) -> Occupancy {
 pub fn free(thread: &mut Handle) -> u32 {
     // SAFETY: as for an open.
     unsafe { cubejobs_regions_free(thread) }
+}
+
+#[cfg(all(test, feature = "std"))]
+impl BlockHandle {
+    pub fn words(&self) -> [u64; 2] {
+        [self.tag, self.machine]
+    }
 }

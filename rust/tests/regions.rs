@@ -93,7 +93,47 @@ fn a_forgotten_guard_keeps_its_block() {
     let machine = machine.close().unwrap_err().machine;
     // The machine can be used as before.
     assert_eq!(machine.take(3).unwrap().region(), Region { base: 8, dim: 3 });
-    assert_eq!(machine.close().unwrap_err().to_string(), "a block is held whose guard was forgotten");
+    assert_eq!(machine.close().unwrap_err().to_string(), "a block is held that has no guard");
+}
+
+#[test]
+fn a_region_is_made_a_guard_again() {
+    let machine = Arc::new(Machine::new(4).unwrap());
+    let region = Held::take(machine.clone(), 3).unwrap().into_raw();
+    assert_eq!((Arc::strong_count(&machine), machine.occupancy().held), (1, 8));
+    // SAFETY: here and below a region is of a block of this machine, and has no guard.
+    let block = unsafe { Block::from_raw(&*machine, region) };
+    assert_eq!(machine.take_at(region).unwrap_err(), TakeError::Taken);
+    let (lower, upper) = block.split().unwrap();
+    assert_eq!((lower.region(), upper.region()), region.halves().unwrap());
+    let (lower, upper) = (lower.into_raw(), upper.into_raw());
+    // SAFETY: as above. Each half has become a region of its own.
+    let [lower, upper] = [lower, upper].map(|it| unsafe { Held::from_raw(machine.clone(), it) });
+    let (upper, lower) = upper.join(lower).unwrap_err();
+    let block = lower.join(upper).unwrap();
+    assert_eq!((block.region(), machine.occupancy().held), (region, 8));
+    let region = block.into_raw();
+    let machine = Arc::into_inner(machine).unwrap().close().unwrap_err().machine;
+    // SAFETY: as above.
+    machine.handle().unwrap().release(unsafe { Block::from_raw(&machine, region) }).unwrap();
+    assert_eq!(machine.occupancy().free[..5], [16, 8, 4, 2, 1]);
+    machine.close().unwrap();
+}
+
+#[test]
+fn a_region_does_not_name_its_machine() {
+    let [one, other] = [0, 1].map(|_| Machine::new(3).unwrap());
+    let regions = [&one, &other].map(|it| it.take(1).unwrap().into_raw());
+    assert_eq!(regions[0], regions[1]);
+    // SAFETY: both machines have returned this region, and each makes one guard of it.
+    let [of_one, of_other] = [(&one, regions[1]), (&other, regions[0])]
+        .map(|(machine, region)| unsafe { Block::from_raw(machine, region) });
+    let upper = other.take_at(Region { base: 2, dim: 1 }).unwrap();
+    let (of_one, upper) = of_one.join(upper).unwrap_err();
+    drop(of_one);
+    assert_eq!((one.occupancy().held, other.occupancy().held), (0, 4));
+    drop(of_other.join(upper).unwrap());
+    assert_eq!(other.occupancy().held, 0);
 }
 
 #[test]

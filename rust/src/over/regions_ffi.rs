@@ -4,8 +4,10 @@
 //! only that machines have different numbers, which [`open`] gives them.
 
 use crate::source::cubejobs_regions as source;
+use crate::source::cubejobs_regions::tag::tag_of;
 use crate::source::kit::alloc::Global;
 use crate::source::kit::opaque::Opaque;
+use crate::Region;
 use core::sync::atomic::{AtomicU64, Ordering::SeqCst};
 
 pub use crate::source::bitmap_occupancy::FREE_PLACES;
@@ -33,6 +35,13 @@ impl BlockHandle {
     pub const EMPTY: BlockHandle =
         BlockHandle { tag: 0, machine: 0, seat: source::hidden_seat::HiddenSeat {} };
 
+    /// Makes the handle of a block that is held, and that no other handle holds. The machine is of
+    /// this dimension and number.
+    pub fn of_held(region: Region, dim: u32, machine: u64) -> BlockHandle {
+        let region = crate::source::cube_shape::Region { base: region.base, dim: region.dim };
+        BlockHandle { tag: tag_of(region, dim), machine, ..BlockHandle::EMPTY }
+    }
+
     /// Returns whether it has held nothing yet, or a call has emptied it.
     pub fn is_empty(&self) -> bool {
         self.tag == 0
@@ -49,9 +58,13 @@ impl Answer {
     }
 }
 
-pub fn open(thread: &mut Handle, dim: u32) -> u32 {
+/// Opens a machine. Returns its number, or the code of the refusal.
+pub fn open(thread: &mut Handle, dim: u32) -> Result<u64, u32> {
     let number = NEXT.fetch_add(1, SeqCst);
-    source::cubejobs_regions_open_version(thread, source::VERSION, dim, number)
+    match source::cubejobs_regions_open_version(thread, source::VERSION, dim, number) {
+        DONE => Ok(number),
+        code => Err(code),
+    }
 }
 
 pub fn share(thread: &mut Handle, other: &mut Handle) -> u32 {
@@ -92,4 +105,11 @@ pub fn occupancy(thread: &mut Handle) -> Occupancy {
 
 pub fn free(thread: &mut Handle) -> u32 {
     source::cubejobs_regions_free(thread)
+}
+
+#[cfg(all(test, feature = "std"))]
+impl BlockHandle {
+    pub fn words(&self) -> [u64; 2] {
+        [self.tag, self.machine]
+    }
 }
