@@ -158,6 +158,7 @@ pub struct Rest<P: Payload> {
 
 /// The reason why a dispatcher was not opened. See [`Dispatcher::new`].
 #[derive(Clone, Copy, Debug, PartialEq, Eq)]
+#[non_exhaustive]
 pub enum OpenError {
     /// The dimension is above [`MAX_DIM`].
     BadDimension,
@@ -169,6 +170,7 @@ pub enum OpenError {
 
 /// The reason of a refused submit. See [`Lane::submit`].
 #[derive(Clone, Copy, Debug, PartialEq, Eq)]
+#[non_exhaustive]
 pub enum SubmitError {
     /// The dimension is above that of the machine.
     BadDimension,
@@ -183,6 +185,7 @@ pub enum SubmitError {
 /// The reason why a worker has no job that runs. See [`Worker::try_next`].
 #[derive(Clone, Copy, Debug, PartialEq, Eq)]
 #[must_use = "the worker may keep a job"]
+#[non_exhaustive]
 pub enum NextError {
     /// No block was found for the job. The worker keeps it.
     NoRegion,

@@ -39,6 +39,7 @@ pub struct FirstFit<B> {
 
 /// The reason why no machine was made.
 #[derive(Clone, Copy, Debug, PartialEq, Eq)]
+#[non_exhaustive]
 pub enum OpenError {
     /// The dimension is above [`MAX_DIM`].
     BadDimension,
@@ -48,6 +49,7 @@ pub enum OpenError {
 
 /// The reason of a refused take. A refusal changes nothing.
 #[derive(Clone, Copy, Debug, PartialEq, Eq)]
+#[non_exhaustive]
 pub enum TakeError {
     /// The dimension is above that of the machine.
     BadDimension,
@@ -59,6 +61,7 @@ pub enum TakeError {
 
 /// The reason of a refused release. A refusal changes nothing.
 #[derive(Clone, Copy, Debug, PartialEq, Eq)]
+#[non_exhaustive]
 pub enum ReleaseError {
     /// The dimension is above that of the machine.
     BadDimension,

@@ -44,6 +44,28 @@
 //! copy::<cubejobs::regions::Held>();
 //! ```
 //!
+//! A program is ready for the reasons of later versions:
+//!
+//! ```compile_fail,E0004
+//! use cubejobs::lanes::SubmitError;
+//!
+//! fn say(error: SubmitError) -> &'static str {
+//!     match error {
+//!         SubmitError::Full => "later",
+//!         SubmitError::Closed | SubmitError::Spent => "never",
+//!     }
+//! }
+//! ```
+//!
+//! And for more fields of an error:
+//!
+//! ```compile_fail,E0638
+//! fn take(held: cubejobs::regions::StillHeld) -> cubejobs::regions::Machine {
+//!     let cubejobs::regions::StillHeld { machine } = held;
+//!     machine
+//! }
+//! ```
+//!
 //! A handle has no copy:
 //!
 //! ```compile_fail,E0277

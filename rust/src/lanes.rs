@@ -143,6 +143,7 @@ pub struct Accepted {
 
 /// The error of a submit, with the payload. See [`Lane::submit`].
 #[derive(Clone, Copy, PartialEq, Eq)]
+#[non_exhaustive]
 pub struct Refused<R, P> {
     /// The reason.
     pub reason: R,
@@ -182,6 +183,7 @@ pub struct Rest<P: Payload> {
 
 /// The error of lanes that were not finished, with the lanes. They are closed. See
 /// [`Lanes::finish`].
+#[non_exhaustive]
 pub struct StillOut<L> {
     /// The lanes, or the dispatcher.
     pub owner: L,
@@ -191,6 +193,7 @@ pub struct StillOut<L> {
 
 /// The reason why lanes were not opened. See [`Lanes::new`].
 #[derive(Clone, Copy, Debug, PartialEq, Eq)]
+#[non_exhaustive]
 pub enum OpenError {
     /// A size is out of range.
     BadSizes,
@@ -200,6 +203,7 @@ pub enum OpenError {
 
 /// The reason why a handle was not dealt out. See [`Lanes::lane`].
 #[derive(Clone, Copy, Debug, PartialEq, Eq)]
+#[non_exhaustive]
 pub enum DealError {
     /// All lanes, or all workers, are out.
     NoneLeft,
@@ -209,6 +213,7 @@ pub enum DealError {
 
 /// The reason of a refused submit. See [`Lane::submit`].
 #[derive(Clone, Copy, Debug, PartialEq, Eq)]
+#[non_exhaustive]
 pub enum SubmitError {
     /// The lane has as many jobs as its capacity.
     Full,
@@ -220,6 +225,7 @@ pub enum SubmitError {
 
 /// The reason why no job was taken. See [`Worker::take`].
 #[derive(Clone, Copy, Debug, PartialEq, Eq)]
+#[non_exhaustive]
 pub enum TakeError {
     /// There is no lane with this number.
     BadLane,

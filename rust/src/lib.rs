@@ -107,10 +107,12 @@ pub struct Machine {
 
 /// The error of a dimension above [`MAX_DIM`].
 #[derive(Clone, Copy, Debug, PartialEq, Eq)]
+#[non_exhaustive]
 pub struct BadDimension;
 
 /// The reason of a refused take. A refusal changes nothing.
 #[derive(Clone, Copy, Debug, PartialEq, Eq)]
+#[non_exhaustive]
 pub enum TakeError {
     /// The station is not below [`MAX_STATIONS`].
     BadStation,
@@ -128,6 +130,7 @@ pub enum TakeError {
 
 /// The reason of a refused release. A refusal changes nothing.
 #[derive(Clone, Copy, Debug, PartialEq, Eq)]
+#[non_exhaustive]
 pub enum ReleaseError {
     /// The station is not below [`MAX_STATIONS`].
     BadStation,

@@ -104,6 +104,7 @@ pub type Held = Block<Arc<Machine>>;
 
 /// The reason why a machine or a handle was not opened.
 #[derive(Clone, Copy, Debug, PartialEq, Eq)]
+#[non_exhaustive]
 pub enum OpenError {
     /// The dimension is above [`MAX_DIM`].
     BadDimension,
@@ -113,6 +114,7 @@ pub enum OpenError {
 
 /// The reason of a refused take. A refusal changes nothing.
 #[derive(Clone, Copy, Debug, PartialEq, Eq)]
+#[non_exhaustive]
 pub enum TakeError {
     /// The dimension is above that of the machine.
     BadDimension,
@@ -133,6 +135,7 @@ pub enum TakeError {
 
 /// What is free in a machine. Each word is read at some moment of the call.
 #[derive(Clone, Copy, Debug, PartialEq, Eq)]
+#[non_exhaustive]
 pub struct Occupancy {
     /// The number of free blocks of each dimension, at the dimension.
     pub free: [u64; ffi::FREE_PLACES],
@@ -144,6 +147,7 @@ pub struct Occupancy {
 
 /// The error of a machine that was not closed: a block of it is held and has no guard. The guard
 /// was made a region ([`Block::into_raw`]), or was forgotten ([`core::mem::forget`]).
+#[non_exhaustive]
 pub struct StillHeld {
     /// The machine.
     pub machine: Machine,

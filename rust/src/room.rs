@@ -33,6 +33,7 @@ pub trait Kind: Sized {
 
 /// A handle that is not back when lanes are to end. See [`StillOut`](crate::lanes::StillOut).
 #[derive(Clone, Copy, Debug, PartialEq, Eq)]
+#[non_exhaustive]
 pub enum Out {
     /// The producer's handle of the lane with this number.
     Lane(u32),

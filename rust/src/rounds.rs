@@ -48,6 +48,7 @@ pub struct Collective {
 
 /// The reason why numbers name no collective.
 #[derive(Clone, Copy, Debug, PartialEq, Eq)]
+#[non_exhaustive]
 pub enum CollectiveError {
     /// The dimension is above [`MAX_DIM`].
     BadDimension,

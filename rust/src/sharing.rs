@@ -20,6 +20,7 @@ pub struct SharedLane<P: Payload> {
 
 /// The reason of a refused submit to a shared lane. See [`SharedLane::submit`].
 #[derive(Clone, Copy, Debug, PartialEq, Eq)]
+#[non_exhaustive]
 pub enum SharedError {
     /// Another producer is in the lane. Submit again.
     Busy,

@@ -322,7 +322,7 @@ impl<'a, 'b> Caller<'a, 'b> {
             Some(handle) => handle.occupancy(),
             None => self.places[number].machine.occupancy(),
         };
-        let Occupancy { free, held, largest } = occupancy;
+        let Occupancy { free, held, largest, .. } = occupancy;
         let (place, dim) = (&self.places[number], self.places[number].machine.dim());
         assert_eq!(largest, (0..=dim).rev().find(|&k| free[k as usize] > 0));
         assert!(free.iter().zip(0..).all(|(&count, k)| count <= (1 << dim) >> k), "{free:?}");

@@ -14,6 +14,7 @@ use std::fmt;
 /// # Ok::<(), std::io::Error>(())
 /// ```
 #[derive(Clone, Copy, Debug, PartialEq, Eq)]
+#[non_exhaustive]
 pub enum Reason {
     /// The lane has as many jobs as its capacity.
     Full,
@@ -35,6 +36,7 @@ pub enum Reason {
 /// assert_eq!(ranks, [0, 1]);
 /// # Ok::<(), std::io::Error>(())
 /// ```
+#[non_exhaustive]
 pub struct Refused<F> {
     /// The reason.
     pub reason: Reason,
@@ -51,11 +53,12 @@ pub struct Refused<F> {
 /// pool.close_now();
 /// match ticket.join() {
 ///     Ok(number) => assert_eq!(number, 7), // it had begun
-///     Err(payload) => assert_eq!(payload.downcast_ref(), Some(&cubejobs_pool::Cancelled)),
+///     Err(payload) => assert!(payload.is::<cubejobs_pool::Cancelled>()),
 /// }
 /// # Ok::<(), std::io::Error>(())
 /// ```
 #[derive(Clone, Copy, Debug, PartialEq, Eq)]
+#[non_exhaustive]
 pub struct Cancelled;
 
 /// The error of a pool that has no lane left for another [`Client`](crate::Client).
@@ -68,6 +71,7 @@ pub struct Cancelled;
 /// # Ok::<(), std::io::Error>(())
 /// ```
 #[derive(Clone, Copy, Debug, PartialEq, Eq)]
+#[non_exhaustive]
 pub enum ClientError {
     /// All lanes for clients are out. See
     /// [`Builder::client_lanes`](crate::Builder::client_lanes).

@@ -656,12 +656,12 @@ fn a_closed_pool_refuses_its_clients() {
     let ticket = client.spawn(|| 7).unwrap();
     pool.close();
     assert!(ticket.is_finished());
-    let Refused { reason, job } = client.spawn(|| 8).unwrap_err();
+    let Refused { reason, job, .. } = client.spawn(|| 8).unwrap_err();
     assert_eq!((reason, job()), (Reason::Closed, 8));
     assert_eq!(client.try_spawn(|| 8).unwrap_err().reason, Reason::Closed);
     assert_eq!(client.detach(|| ()).unwrap_err().reason, Reason::Closed);
     assert_eq!(client.submit(1, |_| ()).unwrap_err().reason, Reason::Closed);
-    let Refused { reason, job } = client.try_submit(2, |_| 9).unwrap_err();
+    let Refused { reason, job, .. } = client.try_submit(2, |_| 9).unwrap_err();
     assert_eq!(reason, Reason::TooWide);
     assert_eq!(client.try_submit(0, job).unwrap_err().reason, Reason::Closed);
     wait_for_threads(0);
