@@ -186,8 +186,8 @@ class Place:
     def with_python(self):
         needs("python3")
         folder = self.of("share", "cubejobs", "python")
-        said = output(["python3", "-B", "-m", "doctest", "-v", f"{folder}/cubejobs.py"], cwd=folder)
-        must(re.search(r"\n\d\d passed and 0 failed\.\nTest passed\.\n$", said), said[-400:])
+        said = output(["python3", "-B", "-c", "import cubejobs; print(cubejobs.Regions(3).take(3))"], cwd=folder)
+        must(said == "Block(base=0, dim=3)\n", said)
 
     def with_man(self):
         needs("man")
@@ -229,7 +229,7 @@ class Place:
         package = os.path.join(self.work, "package")
         self.must_install("--prefix", "/usr", "--libdir", "/usr/lib/64", "--pythondir", "/usr/lib/py", "--destdir", package)
         must("package" not in read(package, "usr/lib/64/pkgconfig/cubejobs_c.pc"), "the package names the folder")
-        must(os.path.exists(f"{package}/usr/lib/py/cubejobs.py"), "the Python module is elsewhere")
+        must(os.path.exists(f"{package}/usr/lib/py/cubejobs/py.typed"), "the Python module is elsewhere")
         self.must_install("--prefix", "/usr", "--destdir", package, "--uninstall")
         must(not tree(package), f"these are left: {[*tree(package)][:5]}")
 

@@ -20,16 +20,16 @@ CUBEJOBS_LIB names, `release/` of a clone, `lib` of the installation, and the pl
 """
 import ctypes
 import operator
-import os
-import platform
 import threading
 from types import TracebackType
 from typing import List, NamedTuple, Optional, Type
 
+from cubejobs._library import DONE, MAX_DIM, REGIONS_VERSION, Handle, load
+
 __version__ = "0.3.0-dev"
 __all__ = ["Block", "FirstFit", "MAX_DIM", "NoRoom", "NotHeld", "Occupancy", "Region", "Regions", "StillHeld"]
 
-MAX_DIM = 20
+_regions, _fit = load(__version__)
 
 
 class NoRoom(Exception):
@@ -65,88 +65,6 @@ class Occupancy(NamedTuple):
     free: List[int]
 
 
-class _Handle(ctypes.Structure):
-    _fields_ = [("tag", ctypes.c_uint64), ("at", ctypes.c_uint64)]
-
-
-class _Answer(ctypes.Structure):
-    _fields_ = [("code", ctypes.c_uint16), ("dim", ctypes.c_uint16), ("contended", ctypes.c_uint32),
-                ("base", ctypes.c_uint64)]
-
-
-class _OccupancyAnswer(ctypes.Structure):
-    _fields_ = [("code", ctypes.c_uint32), ("largest", ctypes.c_uint32), ("has_free", ctypes.c_bool),
-                ("held", ctypes.c_uint64), ("free", ctypes.c_uint64 * (MAX_DIM + 1))]
-
-
-class _FitAnswer(ctypes.Structure):
-    _fields_ = [("code", ctypes.c_uint32), ("dim", ctypes.c_uint32), ("base", ctypes.c_uint64)]
-
-
-_U32, _U64, _SIZE, _BOOL = ctypes.c_uint32, ctypes.c_uint64, ctypes.c_size_t, ctypes.c_bool
-_HANDLE, _BITS = ctypes.POINTER(_Handle), ctypes.POINTER(ctypes.c_bool)
-_REGIONS_CALLS = {
-    "open_version": (_U32, [_HANDLE, _U32, _U32, _U64]),
-    "take_exact": (_Answer, [_HANDLE, _HANDLE, _U32]),
-    "take_at": (_Answer, [_HANDLE, _HANDLE, _U64, _U32]),
-    "split": (_U32, [_HANDLE, _HANDLE, _HANDLE]),
-    "join": (_U32, [_HANDLE, _HANDLE, _HANDLE]),
-    "release": (_U32, [_HANDLE, _HANDLE]),
-    "block": (_Answer, [_HANDLE]),
-    "occupancy": (_OccupancyAnswer, [_HANDLE]),
-    "free": (_U32, [_HANDLE]),
-    "version_number": (_U32, []),
-}
-_FIT_CALLS = {
-    "bits_take": (_FitAnswer, [_BITS, _SIZE, _U32, _U32]),
-    "bits_take_region": (_FitAnswer, [_BITS, _SIZE, _U32, _U64, _U32]),
-    "bits_release": (_U32, [_BITS, _SIZE, _U32, _U64, _U32]),
-    "bits_is_free": (_BOOL, [_BITS, _SIZE, _U32, _U64, _U32]),
-    "bits_free_regions": (_U64, [_BITS, _SIZE, _U32, _U32]),
-    "bits_largest": (_FitAnswer, [_BITS, _SIZE, _U32]),
-    "version_number": (_U32, []),
-}
-# The version of the header of the lock-free library, CUBEJOBS_REGIONS_VERSION.
-_REGIONS_VERSION = 3
-_DONE = 0
-
-
-def _number(version: str) -> int:
-    """Returns the number of a version: 10203 of 1.2.3."""
-    first, second, third = (int(part) for part in version.partition("-")[0].split("."))
-    return 10000 * first + 100 * second + third
-
-
-def _places(name: str) -> List[str]:
-    """Returns the paths at which a shared object may be, the first one first."""
-    here = os.path.dirname(os.path.abspath(__file__))
-    versioned = f"{name}.{'.'.join(__version__.split('.')[:2])}"
-    named = os.environ.get("CUBEJOBS_LIB")
-    folders = [os.path.join(here, "..", "release", f"linux-{platform.machine()}"),
-               os.path.join(here, "..", "..", "..", "lib")]
-    found = [os.path.join(folder, file) for folder in folders for file in (versioned, name)]
-    return [os.path.join(named, name)] if named else [file for file in found if os.path.exists(file)] + [versioned]
-
-
-def _load(name: str, prefix: str, calls: dict) -> ctypes.CDLL:
-    """Loads a shared object and declares its calls. Raises ImportError if it is not there, or of another version."""
-    try:
-        library = ctypes.CDLL(_places(name)[0])
-    except OSError as reason:
-        raise ImportError(f"{reason}; set CUBEJOBS_LIB to the folder of {name}") from None
-    for call, (result, arguments) in calls.items():
-        function = getattr(library, f"{prefix}_{call}")
-        function.restype, function.argtypes = result, arguments
-        setattr(library, call, function)
-    if library.version_number() != _number(__version__):
-        raise ImportError(f"{name} is of another version than this module, which is of {__version__}")
-    return library
-
-
-_regions = _load("libcubejobs_regions.so", "cubejobs_regions", _REGIONS_CALLS)
-_fit = _load("libcubejobs_c.so", "cubejobs", _FIT_CALLS)
-
-
 def _natural(number: int, most: int, what: str) -> int:
     """Returns a whole number from 0 to the most. Raises ValueError if it is none of these."""
     whole = operator.index(number)
@@ -161,14 +79,14 @@ class Block:
     A block that is forgotten stays held.
     """
 
-    def __init__(self, machine: "Regions", handle: _Handle) -> None:
+    def __init__(self, machine: "Regions", handle: Handle) -> None:
         self._machine, self._handle = machine, handle
 
     @property
     def region(self) -> Region:
         """The first processor and the dimension. Raises NotHeld if the block was given back."""
         found = _regions.block(self._handle)
-        if found.code != _DONE:
+        if found.code != DONE:
             raise NotHeld("the block was given back")
         return Region(found.base, found.dim)
 
@@ -244,34 +162,34 @@ class Regions:
 
     def __init__(self, dim: int) -> None:
         """Opens a machine of 2^dim processors, of which none is held. Raises ValueError or MemoryError."""
-        self._lock, self._handle, self._is_open = threading.Lock(), _Handle(), False
+        self._lock, self._handle, self._is_open = threading.Lock(), Handle(), False
         self.dim = _natural(dim, MAX_DIM, "the dimension of a machine")
         with Regions._opening:
             Regions._opened += 1
             number = Regions._opened
-        if _regions.open_version(self._handle, _REGIONS_VERSION, self.dim, number) != _DONE:
+        if _regions.open_version(self._handle, REGIONS_VERSION, self.dim, number) != DONE:
             raise MemoryError("there is no memory for the machine")
         self._is_open = True
 
     def take(self, dim: int) -> Block:
         """Takes some free block. Raises NoRoom if there is none, and ValueError if it is larger than the machine."""
-        dim, handle = _natural(dim, self.dim, "the dimension of a block"), _Handle()
+        dim, handle = _natural(dim, self.dim, "the dimension of a block"), Handle()
         with self._lock:
             self._must_be_open()
-            if _regions.take_exact(self._handle, handle, dim).code != _DONE:
+            if _regions.take_exact(self._handle, handle, dim).code != DONE:
                 raise NoRoom(f"a part of each block of dimension {dim} is held")
         return Block(self, handle)
 
     def take_at(self, base: int, dim: int) -> Block:
         """Takes the block that begins at a processor. Raises NoRoom if a processor of it is held, and ValueError if no
         block of the dimension begins there."""
-        dim, handle = _natural(dim, self.dim, "the dimension of a block"), _Handle()
+        dim, handle = _natural(dim, self.dim, "the dimension of a block"), Handle()
         base = _natural(base, (1 << self.dim) - 1, "a processor")
         if base % (1 << dim):
             raise ValueError(f"no block of dimension {dim} begins at the processor {base}")
         with self._lock:
             self._must_be_open()
-            if _regions.take_at(self._handle, handle, base, dim).code != _DONE:
+            if _regions.take_at(self._handle, handle, base, dim).code != DONE:
                 raise NoRoom(f"a processor of the block of dimension {dim} at {base} is held")
         return Block(self, handle)
 
@@ -286,7 +204,7 @@ class Regions:
     def close(self) -> None:
         """Frees the machine. Raises StillHeld if a block is held: then nothing changes. A second close does nothing."""
         with self._lock:
-            if self._is_open and _regions.free(self._handle) != _DONE:
+            if self._is_open and _regions.free(self._handle) != DONE:
                 raise StillHeld("a block of the machine is held")
             self._is_open = False
 
@@ -296,11 +214,11 @@ class Regions:
 
     def _release(self, block: Block) -> None:
         with self._lock:
-            if _regions.release(self._handle, block._handle) != _DONE:
+            if _regions.release(self._handle, block._handle) != DONE:
                 raise NotHeld("the block was given back")
 
     def _split(self, block: Block) -> Block:
-        half = _Handle()
+        half = Handle()
         with self._lock:
             if block.dim == 0:
                 raise ValueError("a block of one processor has no halves")
@@ -309,7 +227,7 @@ class Regions:
 
     def _join(self, lower: Block, upper: Block) -> None:
         with self._lock:
-            if lower is upper or _regions.join(self._handle, lower._handle, upper._handle) != _DONE:
+            if lower is upper or _regions.join(self._handle, lower._handle, upper._handle) != DONE:
                 raise ValueError("these are not the lower and the upper half of a block")
 
 
@@ -337,7 +255,7 @@ class FirstFit:
         """Takes the first fit. Raises NoRoom if no block is free, and ValueError if it is larger than the machine."""
         dim = _natural(dim, self.dim, "the dimension of a block")
         found = _fit.bits_take(self._bits, len(self._bits), self.dim, dim)
-        if found.code != _DONE:
+        if found.code != DONE:
             raise NoRoom(f"no block of dimension {dim} is free")
         return Region(found.base, found.dim)
 
@@ -345,13 +263,13 @@ class FirstFit:
         """Takes the block that begins at a processor. Raises NoRoom if a processor of it is held, and ValueError if no
         block of the dimension begins there."""
         region = self._region(base, dim)
-        if _fit.bits_take_region(self._bits, len(self._bits), self.dim, *region).code != _DONE:
+        if _fit.bits_take_region(self._bits, len(self._bits), self.dim, *region).code != DONE:
             raise NoRoom(f"a processor of the block of dimension {dim} at {base} is held")
         return region
 
     def release(self, region: Region) -> None:
         """Gives a block back. Raises NotHeld if a processor of it is free, and ValueError if there is no such block."""
-        if _fit.bits_release(self._bits, len(self._bits), self.dim, *self._region(*region)) != _DONE:
+        if _fit.bits_release(self._bits, len(self._bits), self.dim, *self._region(*region)) != DONE:
             raise NotHeld(f"a processor of {region} is free")
 
     def is_free(self, base: int, dim: int) -> bool:
@@ -366,7 +284,7 @@ class FirstFit:
     def largest(self) -> Optional[Region]:
         """Returns the first free block of the largest dimension that has one, or None. Takes nothing."""
         found = _fit.bits_largest(self._bits, len(self._bits), self.dim)
-        return Region(found.base, found.dim) if found.code == _DONE else None
+        return Region(found.base, found.dim) if found.code == DONE else None
 
     def _region(self, base: int, dim: int) -> Region:
         dim = _natural(dim, self.dim, "the dimension of a block")
