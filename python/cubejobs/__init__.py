@@ -6,30 +6,53 @@ processors in a row, from a multiple of 2^k on.
 `Regions` is the lock-free allocator: it finds some free block. `FirstFit` is exact: it finds the free block with the
 least base. Both hold any number of blocks, on machines of dimension 0 to 20.
 
->>> machine = Regions(4)
->>> with machine.take(2) as block:
-...     print(len(block.processors), machine.occupancy().held)
+>>> with Regions(4) as machine:
+...     with machine.take(2) as block:
+...         print(len(block.processors), machine.occupancy().held)
+...     machine.occupancy().held
 4 4
->>> machine.occupancy().held
 0
->>> machine.close()
+
+Both have the methods of `Machine`, so one function serves both:
+
+>>> def run(machine: Machine, dims: List[int]) -> int:
+...     with machine:
+...         return sum(len(machine.take(dim).processors) for dim in dims)
+>>> try:
+...     run(FirstFit(3), [0, 1])
+... except StillHeld as reason:
+...     print(reason)
+blocks that are held: 2
+
+Blocks. Leave a `with`, or call `release`, to give a block back. A block that is forgotten stays held: `held` lists all
+blocks, and `release` also takes two numbers, as in `machine.release(Region(4, 2))`.
+
+Ends. Leaving the `with` of a machine closes it, and raises StillHeld if a block is held. If the body ends by an
+exception, that exception comes out.
+
+Threads. They may share a machine and its blocks: a lock lets them in one after the other.
 
 This module is for experiments and notebooks: its calls are far slower than those of C. What is proved is the library,
 and not this module. It loads the shared objects from the first of these places that has them: the folder that
-CUBEJOBS_LIB names, `release/` of a clone, `lib` of the installation, and the places where the system looks.
+CUBEJOBS_LIB names, the folder of this package, `release/` of a clone, `lib` of the installation, and the places where
+the system looks.
 """
+import abc
 import ctypes
 import operator
 import threading
 from types import TracebackType
-from typing import List, NamedTuple, Optional, Type
+from typing import (Any, Callable, ContextManager, Dict, List, NamedTuple, NoReturn, Optional, Tuple, Type,
+                    TypeVar, Union)
 
 from cubejobs._library import DONE, MAX_DIM, REGIONS_VERSION, Handle, load
 
 __version__ = "0.3.0-dev"
-__all__ = ["Block", "FirstFit", "MAX_DIM", "NoRoom", "NotHeld", "Occupancy", "Region", "Regions", "StillHeld"]
+__all__ = ["Block", "FirstFit", "MAX_DIM", "Machine", "NoRoom", "NotHeld", "Occupancy", "Region", "Regions",
+           "StillHeld"]
 
 _regions, _fit = load(__version__)
+_Self = TypeVar("_Self", bound="Machine")
 
 
 class NoRoom(Exception):
@@ -37,7 +60,7 @@ class NoRoom(Exception):
 
 
 class NotHeld(Exception):
-    """A refused release: the block is not held, or it is of another machine."""
+    """A refused use of a block: it was given back, or it is of another machine."""
 
 
 class StillHeld(Exception):
@@ -55,6 +78,11 @@ class Region(NamedTuple):
         """The numbers of its processors."""
         return range(self.base, self.base + (1 << self.dim))
 
+    @property
+    def region(self) -> "Region":
+        """The region itself. So code that reads a block also reads a region."""
+        return self
+
 
 class Occupancy(NamedTuple):
     """What is held and what is free: the number of held processors, the dimension of the largest free block, if there
@@ -65,6 +93,35 @@ class Occupancy(NamedTuple):
     free: List[int]
 
 
+class _Numbers:
+    """The lock that gives each machine its number."""
+
+    def __init__(self) -> None:
+        self.lock, self.machines = threading.Lock(), 0
+
+    def next_machine(self) -> int:
+        """Returns a number that no other machine of this process has."""
+        with self.lock:
+            self.machines += 1
+            return self.machines
+
+
+_numbers = _Numbers()
+
+
+class _Hold:
+    """What a block holds: its region, or None once it was given back, and its handle in the library, if it has one.
+
+    A block and its machine share it. The machine does not refer to the block: it would keep itself by that.
+    """
+
+    __slots__ = ("region", "handle")
+
+    def __init__(self, region: Region, handle: Optional[Handle] = None) -> None:
+        self.region: Optional[Region] = region
+        self.handle = handle
+
+
 def _natural(number: int, most: int, what: str) -> int:
     """Returns a whole number from 0 to the most. Raises ValueError if it is none of these."""
     whole = operator.index(number)
@@ -73,22 +130,27 @@ def _natural(number: int, most: int, what: str) -> int:
     return whole
 
 
+def _must_be_done(code: int) -> None:
+    if code != DONE:
+        raise RuntimeError(f"the library refuses with the code {code}")
+
+
 class Block:
-    """A held block of a machine `Regions`. Leave a `with`, or call `release`, to give it back. Any thread may do so.
+    """A held block of a machine. Leave a `with`, or call `release`, to give it back. Any thread may do so."""
 
-    A block that is forgotten stays held.
-    """
+    __slots__ = ("_machine", "_hold", "__weakref__")
 
-    def __init__(self, machine: "Regions", handle: Handle) -> None:
-        self._machine, self._handle = machine, handle
+    def __init__(self, machine: "Machine", hold: _Hold) -> None:
+        self._machine, self._hold = machine, hold
 
     @property
     def region(self) -> Region:
-        """The first processor and the dimension. Raises NotHeld if the block was given back."""
-        found = _regions.block(self._handle)
-        if found.code != DONE:
+        """The first processor and the dimension, as plain numbers. Raises NotHeld if the block was given back."""
+        with self._machine._turn():
+            region = self._hold.region
+        if region is None:
             raise NotHeld("the block was given back")
-        return Region(found.base, found.dim)
+        return region
 
     @property
     def base(self) -> int:
@@ -107,10 +169,11 @@ class Block:
 
     def release(self) -> None:
         """Gives the block back. Raises NotHeld if it was given back before."""
-        self._machine._release(self)
+        self._machine.release(self)
 
     def split(self) -> "Block":
-        """Keeps the lower half and returns the upper one. Raises ValueError if the block is one processor.
+        """Keeps the lower half and returns the upper one. Raises ValueError if the block is one processor, and NotHeld
+        if it was given back.
 
         >>> machine = Regions(3)
         >>> lower = machine.take(3)
@@ -124,7 +187,8 @@ class Block:
         return self._machine._split(self)
 
     def join(self, upper: "Block") -> None:
-        """Joins the upper half to this lower one. Raises ValueError if they are not the two halves of a block."""
+        """Joins the upper half to this lower one, which then is the whole. Raises ValueError if they are not the two
+        halves of a block, and NotHeld if one of them was given back or is of another machine."""
         self._machine._join(self, upper)
 
     def __enter__(self) -> "Block":
@@ -132,22 +196,184 @@ class Block:
 
     def __exit__(self, kind: Optional[Type[BaseException]], value: Optional[BaseException],
                  trace: Optional[TracebackType]) -> None:
-        self.release()
+        try:
+            self.release()
+        except NotHeld:
+            pass
+        except Exception:
+            if kind is None:
+                raise
+
+    def __reduce__(self) -> NoReturn:
+        raise TypeError("a block cannot be copied or sent to another process: send its region")
 
     def __repr__(self) -> str:
+        region = self._hold.region
+        return f"Block(base={region.base}, dim={region.dim})" if region else "Block(given back)"
+
+
+class Machine(abc.ABC):
+    """What `Regions` and `FirstFit` have in common: use it in annotations."""
+
+    def __init__(self, dim: int) -> None:
+        """Opens a machine of 2^dim processors, of which none is held. Raises ValueError or MemoryError."""
+        self.dim = _natural(dim, MAX_DIM, "the dimension of a machine")
+        # A thread that a signal handler interrupts, or the garbage collector, may come here again.
+        self._lock = threading.RLock()
+        self._is_open = True
+        # All held blocks, by their first processors.
+        self._holds: Dict[int, _Hold] = {}
+
+    def take(self, dim: int) -> Block:
+        """Takes a free block. Raises NoRoom if there is none, and ValueError if it is larger than the machine."""
+        dim = _natural(dim, self.dim, "the dimension of a block")
+        with self._turn():
+            self._must_be_open()
+            hold = self._find(dim)
+            if hold is None:
+                raise NoRoom(f"a part of each block of dimension {dim} is held")
+            return Block(self, hold)
+
+    def take_at(self, base: int, dim: int) -> Block:
+        """Takes the block that begins at a processor. Raises NoRoom if a processor of it is held, and ValueError if no
+        block of the dimension begins there."""
+        region = self._region(base, dim)
+        with self._turn():
+            self._must_be_open()
+            hold = self._find_at(region)
+            if hold is None:
+                raise NoRoom(f"a processor of the block of dimension {region.dim} at {region.base} is held")
+            return Block(self, hold)
+
+    def release(self, block: Union[Block, Region]) -> None:
+        """Gives a block back, or the block that is a region. Raises NotHeld if the block was given back or is of
+        another machine, or no held block is the region. Raises ValueError if the machine has no such region."""
+        with self._turn():
+            hold, region = self._held(block)
+            hold.region = None
+            del self._holds[region.base]
+            self._give_back(region, hold)
+
+    def held(self) -> List[Region]:
+        """Returns the regions of all held blocks, in their order, also of those that were forgotten."""
+        with self._turn():
+            return sorted(hold.region for hold in self._holds.values() if hold.region)
+
+    @abc.abstractmethod
+    def occupancy(self) -> Occupancy:
+        """Counts what is held and what is free."""
+
+    def close(self) -> None:
+        """Frees the machine. Raises StillHeld if a block is held: then nothing changes. A second close does nothing."""
+        with self._turn():
+            if self._holds:
+                raise StillHeld(f"blocks that are held: {len(self._holds)}")
+            if self._is_open:
+                self._is_open = False
+                self._end()
+
+    def __enter__(self: _Self) -> _Self:
+        return self
+
+    def __exit__(self, kind: Optional[Type[BaseException]], value: Optional[BaseException],
+                 trace: Optional[TracebackType]) -> None:
         try:
-            return f"Block(base={self.base}, dim={self.dim})"
-        except NotHeld:
-            return "Block(given back)"
+            self.close()
+        except Exception:
+            if kind is None:
+                raise
+
+    def __reduce__(self) -> NoReturn:
+        raise TypeError("a machine cannot be copied or sent to another process: its copy would give out the same blocks")
+
+    def __repr__(self) -> str:
+        name = f"{type(self).__name__}(dim={self.dim}"
+        held = sum(1 << region.dim for region in self.held())
+        return f"{name}, held={held})" if self._is_open else f"{name}, closed)"
+
+    def _turn(self) -> ContextManager[Any]:
+        """Returns the lock of the machine."""
+        return self._lock
+
+    def _must_be_open(self) -> None:
+        if not self._is_open:
+            raise ValueError("the machine is closed")
+
+    def _region(self, base: int, dim: int) -> Region:
+        """Returns a region of the machine. Raises ValueError if it has no such region."""
+        dim = _natural(dim, self.dim, "the dimension of a block")
+        base = _natural(base, (1 << self.dim) - 1, "a processor")
+        if base % (1 << dim):
+            raise ValueError(f"no block of dimension {dim} begins at the processor {base}")
+        return Region(base, dim)
+
+    def _held(self, block: Union[Block, Region]) -> Tuple[_Hold, Region]:
+        """Returns what a block of this machine holds. Raises NotHeld, or ValueError if there is no such region."""
+        if isinstance(block, Block):
+            if block._machine is not self:
+                raise NotHeld("the block is of another machine")
+            if block._hold.region is None:
+                raise NotHeld("the block was given back")
+            return block._hold, block._hold.region
+        region = self._region(*block)
+        hold = self._holds.get(region.base)
+        if hold is None or hold.region != region:
+            raise NotHeld(f"no block that is held is {region}")
+        return hold, region
+
+    # The bookkeeping of a release, a split and a join comes before the call of the library: if Ctrl-C comes in between,
+    # processors may stay held, and are never given out twice.
+
+    def _split(self, block: Block) -> Block:
+        with self._turn():
+            lower, (base, dim) = self._held(block)
+            if dim == 0:
+                raise ValueError("a block of one processor has no halves")
+            middle = base + (1 << dim - 1)
+            upper = _Hold(Region(middle, dim - 1), lower.handle and Handle())
+            lower.region, self._holds[middle] = Region(base, dim - 1), upper
+            self._cut(lower, upper)
+            return Block(self, upper)
+
+    def _join(self, block: Block, half: Block) -> None:
+        with self._turn():
+            (lower, (base, dim)), (upper, other) = self._held(block), self._held(half)
+            if base % (2 << dim) or other != (base + (1 << dim), dim):
+                raise ValueError("these are not the lower and the upper half of a block")
+            lower.region, upper.region = Region(base, dim + 1), None
+            del self._holds[other.base]
+            self._glue(lower, upper)
+
+    @abc.abstractmethod
+    def _find(self, dim: int) -> Optional[_Hold]:
+        """Takes a free block, and keeps it among the held ones. Returns None if there is none."""
+
+    @abc.abstractmethod
+    def _find_at(self, region: Region) -> Optional[_Hold]:
+        """Takes a region, and keeps it among the held ones. Returns None if a processor of it is held."""
+
+    @abc.abstractmethod
+    def _give_back(self, region: Region, hold: _Hold) -> None:
+        """Releases a block."""
+
+    def _cut(self, lower: _Hold, upper: _Hold) -> None:
+        """Splits a block."""
+
+    def _glue(self, lower: _Hold, upper: _Hold) -> None:
+        """Joins two blocks."""
+
+    @abc.abstractmethod
+    def _end(self) -> None:
+        """Frees the machine, in which nothing is held."""
 
 
-class Regions:
-    """A machine with the lock-free allocator. Threads may share it: a lock lets them in one after the other.
+class Regions(Machine):
+    """A machine with the lock-free allocator: a take finds some free block.
 
     >>> machine = Regions(3)
     >>> whole = machine.take(3)
-    >>> whole
-    Block(base=0, dim=3)
+    >>> whole, machine
+    (Block(base=0, dim=3), Regions(dim=3, held=8))
     >>> machine.take(0)
     Traceback (most recent call last):
         ...
@@ -155,140 +381,122 @@ class Regions:
     >>> whole.release()
     >>> machine.take_at(4, 2).processors
     range(4, 8)
+    >>> machine.release(Region(4, 2))
     """
 
-    _opened = 0
-    _opening = threading.Lock()
-
     def __init__(self, dim: int) -> None:
-        """Opens a machine of 2^dim processors, of which none is held. Raises ValueError or MemoryError."""
-        self._lock, self._handle, self._is_open = threading.Lock(), Handle(), False
-        self.dim = _natural(dim, MAX_DIM, "the dimension of a machine")
-        with Regions._opening:
-            Regions._opened += 1
-            number = Regions._opened
-        if _regions.open_version(self._handle, REGIONS_VERSION, self.dim, number) != DONE:
+        super().__init__(dim)
+        self._handle = Handle()
+        if _regions.open_version(self._handle, REGIONS_VERSION, self.dim, _numbers.next_machine()) != DONE:
             raise MemoryError("there is no memory for the machine")
-        self._is_open = True
-
-    def take(self, dim: int) -> Block:
-        """Takes some free block. Raises NoRoom if there is none, and ValueError if it is larger than the machine."""
-        dim, handle = _natural(dim, self.dim, "the dimension of a block"), Handle()
-        with self._lock:
-            self._must_be_open()
-            if _regions.take_exact(self._handle, handle, dim).code != DONE:
-                raise NoRoom(f"a part of each block of dimension {dim} is held")
-        return Block(self, handle)
-
-    def take_at(self, base: int, dim: int) -> Block:
-        """Takes the block that begins at a processor. Raises NoRoom if a processor of it is held, and ValueError if no
-        block of the dimension begins there."""
-        dim, handle = _natural(dim, self.dim, "the dimension of a block"), Handle()
-        base = _natural(base, (1 << self.dim) - 1, "a processor")
-        if base % (1 << dim):
-            raise ValueError(f"no block of dimension {dim} begins at the processor {base}")
-        with self._lock:
-            self._must_be_open()
-            if _regions.take_at(self._handle, handle, base, dim).code != DONE:
-                raise NoRoom(f"a processor of the block of dimension {dim} at {base} is held")
-        return Block(self, handle)
 
     def occupancy(self) -> Occupancy:
-        """Counts what is held and what is free."""
-        with self._lock:
+        with self._turn():
             self._must_be_open()
             found = _regions.occupancy(self._handle)
+        _must_be_done(found.code)
         largest = found.largest if found.has_free else None
         return Occupancy(found.held, largest, list(found.free[: self.dim + 1]))
 
-    def close(self) -> None:
-        """Frees the machine. Raises StillHeld if a block is held: then nothing changes. A second close does nothing."""
-        with self._lock:
-            if self._is_open and _regions.free(self._handle) != DONE:
-                raise StillHeld("a block of the machine is held")
-            self._is_open = False
+    def _find(self, dim: int) -> Optional[_Hold]:
+        return self._filled(_regions.take_exact, dim)
 
-    def _must_be_open(self) -> None:
-        if not self._is_open:
-            raise ValueError("the machine is closed")
+    def _find_at(self, region: Region) -> Optional[_Hold]:
+        return self._filled(_regions.take_at, *region)
 
-    def _release(self, block: Block) -> None:
-        with self._lock:
-            if _regions.release(self._handle, block._handle) != DONE:
-                raise NotHeld("the block was given back")
+    def _filled(self, take: Callable[..., Any], *numbers: int) -> Optional[_Hold]:
+        handle = Handle()
+        try:
+            found = take(self._handle, handle, *numbers)
+            if found.code != DONE:
+                return None
+            base = found.base
+            hold = _Hold(Region(base, found.dim), handle)
+            self._holds[base] = hold
+            return hold
+        except BaseException:
+            # Ctrl-C came in between: nobody else has the handle.
+            _regions.release(self._handle, handle)
+            raise
 
-    def _split(self, block: Block) -> Block:
-        half = Handle()
-        with self._lock:
-            if block.dim == 0:
-                raise ValueError("a block of one processor has no halves")
-            _regions.split(self._handle, block._handle, half)
-        return Block(self, half)
+    def _give_back(self, region: Region, hold: _Hold) -> None:
+        _must_be_done(_regions.release(self._handle, hold.handle))
 
-    def _join(self, lower: Block, upper: Block) -> None:
-        with self._lock:
-            if lower is upper or _regions.join(self._handle, lower._handle, upper._handle) != DONE:
-                raise ValueError("these are not the lower and the upper half of a block")
+    def _cut(self, lower: _Hold, upper: _Hold) -> None:
+        _must_be_done(_regions.split(self._handle, lower.handle, upper.handle))
+
+    def _glue(self, lower: _Hold, upper: _Hold) -> None:
+        _must_be_done(_regions.join(self._handle, lower.handle, upper.handle))
+
+    def _end(self) -> None:
+        _must_be_done(_regions.free(self._handle))
 
 
-class FirstFit:
-    """A machine with exact first fit: a take gets the free block with the least base. It is for one thread at a time.
+class FirstFit(Machine):
+    """A machine with exact first fit: a take gets the free block with the least base. It takes a byte for each
+    processor.
 
     >>> machine = FirstFit(3)
     >>> machine.take(0)
-    Region(base=0, dim=0)
-    >>> machine.take(2)
-    Region(base=4, dim=2)
+    Block(base=0, dim=0)
+    >>> block = machine.take(2)
+    >>> block
+    Block(base=4, dim=2)
     >>> machine.largest()
     Region(base=2, dim=1)
-    >>> machine.release(Region(4, 2))
+    >>> block.release()
     >>> machine.free_blocks(2)
     1
     """
 
     def __init__(self, dim: int) -> None:
-        """Opens a machine of 2^dim processors, of which none is held. It takes a byte for each. Raises ValueError."""
-        self.dim = _natural(dim, MAX_DIM, "the dimension of a machine")
-        self._bits = (ctypes.c_bool * (1 << self.dim))()
+        super().__init__(dim)
+        self._size = 1 << self.dim
+        # The pointer keeps the bytes.
+        self._bits = ctypes.cast((ctypes.c_bool * self._size)(), ctypes.POINTER(ctypes.c_bool))
 
-    def take(self, dim: int) -> Region:
-        """Takes the first fit. Raises NoRoom if no block is free, and ValueError if it is larger than the machine."""
-        dim = _natural(dim, self.dim, "the dimension of a block")
-        found = _fit.bits_take(self._bits, len(self._bits), self.dim, dim)
-        if found.code != DONE:
-            raise NoRoom(f"no block of dimension {dim} is free")
-        return Region(found.base, found.dim)
-
-    def take_at(self, base: int, dim: int) -> Region:
-        """Takes the block that begins at a processor. Raises NoRoom if a processor of it is held, and ValueError if no
-        block of the dimension begins there."""
-        region = self._region(base, dim)
-        if _fit.bits_take_region(self._bits, len(self._bits), self.dim, *region).code != DONE:
-            raise NoRoom(f"a processor of the block of dimension {dim} at {base} is held")
-        return region
-
-    def release(self, region: Region) -> None:
-        """Gives a block back. Raises NotHeld if a processor of it is free, and ValueError if there is no such block."""
-        if _fit.bits_release(self._bits, len(self._bits), self.dim, *self._region(*region)) != DONE:
-            raise NotHeld(f"a processor of {region} is free")
+    def occupancy(self) -> Occupancy:
+        with self._turn():
+            largest, free = self.largest(), [self.free_blocks(dim) for dim in range(self.dim + 1)]
+        return Occupancy(self._size - free[0], largest.dim if largest else None, free)
 
     def is_free(self, base: int, dim: int) -> bool:
-        """Returns whether a block begins at this processor and all of it is free."""
-        return _fit.bits_is_free(self._bits, len(self._bits), self.dim, *self._region(base, dim))
+        """Returns whether all of the block that begins at a processor is free. Raises ValueError if there is no such
+        block."""
+        region = self._region(base, dim)
+        return bool(self._call(_fit.bits_is_free, *region))
 
     def free_blocks(self, dim: int) -> int:
         """Returns how many blocks of a dimension are free."""
-        dim = _natural(dim, self.dim, "the dimension of a block")
-        return _fit.bits_free_regions(self._bits, len(self._bits), self.dim, dim)
+        return int(self._call(_fit.bits_free_regions, _natural(dim, self.dim, "the dimension of a block")))
 
     def largest(self) -> Optional[Region]:
         """Returns the first free block of the largest dimension that has one, or None. Takes nothing."""
-        found = _fit.bits_largest(self._bits, len(self._bits), self.dim)
+        found = self._call(_fit.bits_largest)
         return Region(found.base, found.dim) if found.code == DONE else None
 
-    def _region(self, base: int, dim: int) -> Region:
-        dim = _natural(dim, self.dim, "the dimension of a block")
-        base = _natural(base, (1 << self.dim) - 1, "a processor")
-        if base % (1 << dim):
-            raise ValueError(f"no block of dimension {dim} begins at the processor {base}")
-        return Region(base, dim)
+    def _call(self, call: Callable[..., Any], *numbers: int) -> Any:
+        with self._turn():
+            self._must_be_open()
+            return call(self._bits, self._size, self.dim, *numbers)
+
+    def _find(self, dim: int) -> Optional[_Hold]:
+        return self._filled(_fit.bits_take, dim)
+
+    def _find_at(self, region: Region) -> Optional[_Hold]:
+        return self._filled(_fit.bits_take_region, *region)
+
+    def _filled(self, take: Callable[..., Any], *numbers: int) -> Optional[_Hold]:
+        found = take(self._bits, self._size, self.dim, *numbers)
+        if found.code != DONE:
+            return None
+        base = found.base
+        hold = _Hold(Region(base, found.dim))
+        self._holds[base] = hold
+        return hold
+
+    def _give_back(self, region: Region, hold: _Hold) -> None:
+        _must_be_done(_fit.bits_release(self._bits, self._size, self.dim, *region))
+
+    def _end(self) -> None:
+        del self._bits

@@ -42,7 +42,6 @@ _REGIONS_CALLS: _Calls = {
     "split": (_U32, [_HANDLE, _HANDLE, _HANDLE]),
     "join": (_U32, [_HANDLE, _HANDLE, _HANDLE]),
     "release": (_U32, [_HANDLE, _HANDLE]),
-    "block": (_Answer, [_HANDLE]),
     "occupancy": (_OccupancyAnswer, [_HANDLE]),
     "free": (_U32, [_HANDLE]),
     "version_number": (_U32, []),

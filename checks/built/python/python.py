@@ -1,30 +1,52 @@
-"""Tries the Python module of this clone over the shared objects of a folder: `checks/run python FOLDER`."""
+"""Tries the Python module of this clone over the shared objects of a folder: `checks/run python FOLDER`.
+
+It runs the examples of the module's page, and small programs on what the module promises of blocks and machines.
+mypy reads the module and a program of a user, where it is installed.
+"""
 import os
+import shutil
 
-from checks.lib.repository import path
-from checks.lib.rows import Row, Wrong, must, output, run_rows
+from checks.lib.repository import ROOT, path
+from checks.lib.rows import Row, Skipped, Wrong, answer, must, output, run_rows
 
-MODULE = path("python")
+HERE, MODULE = path("checks", "built", "python"), path("python")
 DOCTEST = "import cubejobs, doctest; failed, tried = doctest.testmod(cubejobs); print(tried); raise SystemExit(failed)"
+BEHAVIOUR = (
+    "a_block_reads_as_its_region", "both_machines_take_the_same_code", "both_machines_split_and_join",
+    "a_region_gives_a_block_back", "a_forgotten_block_is_listed", "a_block_is_of_its_machine",
+    "a_second_release_takes_nothing_from_others", "the_exit_of_a_released_block_does_nothing",
+    "the_exception_of_a_body_comes_out", "the_exit_of_a_machine_closes_it", "machines_show_what_they_hold",
+    "nothing_is_copied", "a_block_keeps_its_machine")
+SECONDS = 300
 
 
 class Module:
     """The module of this clone, over the shared objects of a folder."""
 
     def __init__(self, folder):
-        self.folder = os.path.realpath(folder)
+        self.env = {**os.environ, "PYTHONPATH": f"{MODULE}:{ROOT}", "CUBEJOBS_LIB": os.path.realpath(folder)}
 
-    def runs(self, *words, **how):
+    def runs(self, *words):
         """Runs Python with the module on its path, and returns what it writes. It must end well."""
-        env = {**os.environ, "PYTHONPATH": MODULE, "CUBEJOBS_LIB": self.folder}
-        return output(["python3", "-B", *words], env=env, **how)
+        # Newer versions of Python warn of a fork beside threads.
+        words = ["python3", "-B", "-W", "ignore::DeprecationWarning", *words]
+        return output(words, env=self.env, timeout=SECONDS)
 
     def examples_of_its_page(self):
         must(int(self.runs("-c", DOCTEST)) >= 20, "the module has too few examples")
 
+    def has_good_types(self):
+        if not shutil.which("mypy"):
+            raise Skipped("no mypy here")
+        words = ["mypy", "--strict", "--cache-dir", os.devnull, f"{MODULE}/cubejobs", f"{HERE}/typed.py"]
+        status, said, more = answer(words, "", text=True, env={**os.environ, "MYPYPATH": MODULE}, timeout=SECONDS)
+        must(status == 0, (said + more)[-800:])
+
 
 def rows(module):
     yield Row("the examples of its page", module.examples_of_its_page)
+    yield Row("its types", module.has_good_types)
+    yield from (Row(it.replace("_", " "), module.runs, (f"{HERE}/behaviour.py", it)) for it in BEHAVIOUR)
 
 
 def main(words):
