@@ -32,6 +32,10 @@ exception, that exception comes out.
 
 Threads. They may share a machine and its blocks: a lock lets them in one after the other.
 
+Processes. A machine belongs to one process. After a fork, each call on a machine or a block of the parent raises
+OtherProcess in the child, since its copy would give out the same processors again. So let the parent take and release,
+and send `block.region` to its workers: that is two plain numbers. `examples/processes.py` does so.
+
 This module is for experiments and notebooks: its calls are far slower than those of C. What is proved is the library,
 and not this module. It loads the shared objects from the first of these places that has them: the folder that
 CUBEJOBS_LIB names, the folder of this package, `release/` of a clone, `lib` of the installation, and the places where
@@ -40,6 +44,7 @@ the system looks.
 import abc
 import ctypes
 import operator
+import os
 import threading
 from types import TracebackType
 from typing import (Any, Callable, ContextManager, Dict, List, NamedTuple, NoReturn, Optional, Tuple, Type,
@@ -48,8 +53,8 @@ from typing import (Any, Callable, ContextManager, Dict, List, NamedTuple, NoRet
 from cubejobs._library import DONE, MAX_DIM, REGIONS_VERSION, Handle, load
 
 __version__ = "0.3.0-dev"
-__all__ = ["Block", "FirstFit", "MAX_DIM", "Machine", "NoRoom", "NotHeld", "Occupancy", "Region", "Regions",
-           "StillHeld"]
+__all__ = ["Block", "FirstFit", "MAX_DIM", "Machine", "NoRoom", "NotHeld", "Occupancy", "OtherProcess", "Region",
+           "Regions", "StillHeld"]
 
 _regions, _fit = load(__version__)
 _Self = TypeVar("_Self", bound="Machine")
@@ -65,6 +70,10 @@ class NotHeld(Exception):
 
 class StillHeld(Exception):
     """A refused close: a block of the machine is held."""
+
+
+class OtherProcess(Exception):
+    """A refused call in the child of a fork: the machine belongs to the parent."""
 
 
 class Region(NamedTuple):
@@ -93,11 +102,17 @@ class Occupancy(NamedTuple):
     free: List[int]
 
 
-class _Numbers:
-    """The lock that gives each machine its number."""
+class _Process:
+    """This process, and the lock that gives each machine its number. A forked child is another process."""
 
     def __init__(self) -> None:
-        self.lock, self.machines = threading.Lock(), 0
+        self.renew()
+        self.machines = 0
+
+    def renew(self) -> None:
+        """Makes this process another one. In the child of a fork, the thread that had the lock may be gone."""
+        self.mark = object()
+        self.lock = threading.Lock()
 
     def next_machine(self) -> int:
         """Returns a number that no other machine of this process has."""
@@ -106,7 +121,8 @@ class _Numbers:
             return self.machines
 
 
-_numbers = _Numbers()
+_process = _Process()
+os.register_at_fork(after_in_child=_process.renew)
 
 
 class _Hold:
@@ -208,6 +224,8 @@ class Block:
         raise TypeError("a block cannot be copied or sent to another process: send its region")
 
     def __repr__(self) -> str:
+        if not self._machine._is_here():
+            return "Block(of another process)"
         region = self._hold.region
         return f"Block(base={region.base}, dim={region.dim})" if region else "Block(given back)"
 
@@ -220,7 +238,7 @@ class Machine(abc.ABC):
         self.dim = _natural(dim, MAX_DIM, "the dimension of a machine")
         # A thread that a signal handler interrupts, or the garbage collector, may come here again.
         self._lock = threading.RLock()
-        self._is_open = True
+        self._mark, self._is_open = _process.mark, True
         # All held blocks, by their first processors.
         self._holds: Dict[int, _Hold] = {}
 
@@ -288,11 +306,19 @@ class Machine(abc.ABC):
 
     def __repr__(self) -> str:
         name = f"{type(self).__name__}(dim={self.dim}"
+        if not self._is_here():
+            return f"{name}, of another process)"
         held = sum(1 << region.dim for region in self.held())
         return f"{name}, held={held})" if self._is_open else f"{name}, closed)"
 
+    def _is_here(self) -> bool:
+        return self._mark is _process.mark
+
     def _turn(self) -> ContextManager[Any]:
-        """Returns the lock of the machine."""
+        """Returns the lock of the machine. In the child of a fork a thread that is gone may have it: raises OtherProcess
+        instead."""
+        if self._mark is not _process.mark:
+            raise OtherProcess("the machine belongs to the process that this one was forked from: open another one")
         return self._lock
 
     def _must_be_open(self) -> None:
@@ -387,7 +413,7 @@ class Regions(Machine):
     def __init__(self, dim: int) -> None:
         super().__init__(dim)
         self._handle = Handle()
-        if _regions.open_version(self._handle, REGIONS_VERSION, self.dim, _numbers.next_machine()) != DONE:
+        if _regions.open_version(self._handle, REGIONS_VERSION, self.dim, _process.next_machine()) != DONE:
             raise MemoryError("there is no memory for the machine")
 
     def occupancy(self) -> Occupancy:

@@ -1,12 +1,13 @@
 """Tries the Python module of this clone over the shared objects of a folder: `checks/run python FOLDER`.
 
-It runs the examples of the module's page, and small programs on what the module promises of blocks and machines.
-mypy reads the module and a program of a user, where it is installed.
+It runs the examples of the module's page, and small programs on what the module promises of blocks, machines and
+processes. mypy reads the module and programs of users, where it is installed.
 """
+import multiprocessing
 import os
 import shutil
 
-from checks.lib.repository import ROOT, path
+from checks.lib.repository import ROOT, path, read
 from checks.lib.rows import Row, Skipped, Wrong, answer, must, output, run_rows
 
 HERE, MODULE = path("checks", "built", "python"), path("python")
@@ -17,6 +18,9 @@ BEHAVIOUR = (
     "a_second_release_takes_nothing_from_others", "the_exit_of_a_released_block_does_nothing",
     "the_exception_of_a_body_comes_out", "the_exit_of_a_machine_closes_it", "machines_show_what_they_hold",
     "nothing_is_copied", "a_block_keeps_its_machine")
+FORKS = ("a_child_finds_all_shut", "the_exception_of_a_body_comes_out", "children_come_while_threads_call",
+         "locks_of_a_thread_that_is_gone_stop_nothing")
+EXAMPLES = ("processes.py",)
 SECONDS = 300
 
 
@@ -35,18 +39,28 @@ class Module:
     def examples_of_its_page(self):
         must(int(self.runs("-c", DOCTEST)) >= 20, "the module has too few examples")
 
+    def example(self, name):
+        """Runs an example of Python, whose output is beside it."""
+        file = path("examples", name)
+        must(self.runs(file) == read(f"{file[:-3]}.out"), f"{name} has another output")
+
     def has_good_types(self):
         if not shutil.which("mypy"):
             raise Skipped("no mypy here")
-        words = ["mypy", "--strict", "--cache-dir", os.devnull, f"{MODULE}/cubejobs", f"{HERE}/typed.py"]
+        words = ["mypy", "--strict", "--cache-dir", os.devnull, f"{MODULE}/cubejobs", f"{HERE}/typed.py",
+                 *(path("examples", it) for it in EXAMPLES)]
         status, said, more = answer(words, "", text=True, env={**os.environ, "MYPYPATH": MODULE}, timeout=SECONDS)
         must(status == 0, (said + more)[-800:])
 
 
 def rows(module):
     yield Row("the examples of its page", module.examples_of_its_page)
+    yield from (Row(f"the example {it}", module.example, (it,)) for it in EXAMPLES)
     yield Row("its types", module.has_good_types)
-    yield from (Row(it.replace("_", " "), module.runs, (f"{HERE}/behaviour.py", it)) for it in BEHAVIOUR)
+    for file, names in (("behaviour.py", BEHAVIOUR), ("forks.py", FORKS)):
+        yield from (Row(name.replace("_", " "), module.runs, (f"{HERE}/{file}", name)) for name in names)
+    for method in multiprocessing.get_all_start_methods():
+        yield Row(f"workers by {method}", module.runs, (f"{HERE}/forks.py", "workers_have_machines_of_their_own", method))
 
 
 def main(words):
