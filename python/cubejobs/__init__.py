@@ -28,7 +28,8 @@ Blocks. Leave a `with`, or call `release`, to give a block back. A block that is
 blocks, and `release` also takes two numbers, as in `machine.release(Region(4, 2))`.
 
 Ends. Leaving the `with` of a machine closes it, and raises StillHeld if a block is held. If the body ends by an
-exception, that exception comes out.
+exception, that exception comes out. A machine that you drop gives its memory back, also if blocks of it were forgotten.
+As long as you have a block, its machine stays.
 
 Threads. They may share a machine and its blocks: a lock lets them in one after the other.
 
@@ -46,6 +47,7 @@ import ctypes
 import operator
 import os
 import threading
+import weakref
 from types import TracebackType
 from typing import (Any, Callable, ContextManager, Dict, List, NamedTuple, NoReturn, Optional, Tuple, Type,
                     TypeVar, Union)
@@ -413,6 +415,7 @@ class Regions(Machine):
     def __init__(self, dim: int) -> None:
         super().__init__(dim)
         self._handle = Handle()
+        weakref.finalize(self, _drop, self._handle, self._holds, self._mark).atexit = False
         if _regions.open_version(self._handle, REGIONS_VERSION, self.dim, _process.next_machine()) != DONE:
             raise MemoryError("there is no memory for the machine")
 
@@ -456,6 +459,15 @@ class Regions(Machine):
 
     def _end(self) -> None:
         _must_be_done(_regions.free(self._handle))
+
+
+def _drop(handle: Handle, holds: Dict[int, _Hold], mark: object) -> None:
+    """Frees a machine that nobody has any more, with the blocks that were forgotten. If the process is a child of the
+    one that opened it, the memory is a copy, in which a thread may have stopped inside a call: leaves it alone."""
+    if mark is _process.mark:
+        for hold in holds.values():
+            _regions.release(handle, hold.handle)
+        _regions.free(handle)
 
 
 class FirstFit(Machine):

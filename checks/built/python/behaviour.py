@@ -8,6 +8,7 @@ from checks.lib.rows import must
 from cubejobs import FirstFit, NoRoom, NotHeld, Region, Regions, StillHeld
 
 MACHINES = (Regions, FirstFit)
+KEPT = 50 * 2**20
 
 
 def raises(kind, call, *arguments):
@@ -183,6 +184,26 @@ def a_block_keeps_its_machine():
         must((block.region, upper.region) == ((0, 0), (1, 0)), f"{make.__name__}: {block}, {upper}")
         upper.release()
         block.release()
+
+
+def resident():
+    with open("/proc/self/statm", encoding="ascii") as it:
+        return int(it.read().split()[1]) * 4096
+
+
+def dropped_machines_keep_no_memory():
+    before = resident()
+    for _ in range(1000):
+        Regions(20)
+        # Blocks that are forgotten, joined and split too.
+        machine = Regions(20)
+        machine.take(0)
+        lower = machine.take(7)
+        lower.split()
+        machine.take(3).split().split()
+    del machine, lower
+    kept = resident() - before
+    must(kept < KEPT, f"2,000 machines keep {kept:,} bytes")
 
 
 if __name__ == "__main__":

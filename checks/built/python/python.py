@@ -1,6 +1,6 @@
 """Tries the Python module of this clone over the shared objects of a folder: `checks/run python FOLDER`.
 
-It runs the examples of the module's page, and small programs on what the module promises of blocks, machines and
+It runs the examples of the module's page, and small programs on what the module promises of blocks, machines, memory and
 processes. mypy reads the module and programs of users, where it is installed.
 """
 import multiprocessing
@@ -17,7 +17,7 @@ BEHAVIOUR = (
     "a_region_gives_a_block_back", "a_forgotten_block_is_listed", "a_block_is_of_its_machine",
     "a_second_release_takes_nothing_from_others", "the_exit_of_a_released_block_does_nothing",
     "the_exception_of_a_body_comes_out", "the_exit_of_a_machine_closes_it", "machines_show_what_they_hold",
-    "nothing_is_copied", "a_block_keeps_its_machine")
+    "nothing_is_copied", "a_block_keeps_its_machine", "dropped_machines_keep_no_memory")
 FORKS = ("a_child_finds_all_shut", "the_exception_of_a_body_comes_out", "children_come_while_threads_call",
          "locks_of_a_thread_that_is_gone_stop_nothing")
 EXAMPLES = ("processes.py",)
