@@ -1,12 +1,15 @@
 """Tries the Python module of this clone over the shared objects of a folder: `checks/run python FOLDER`.
 
 It runs the examples of the module's page, and small programs on what the module promises of blocks, machines, memory and
-processes. mypy reads the module and programs of users, where it is installed.
+processes. mypy reads the module and programs of users, where it is installed. pip installs the module into a virtual
+environment and removes it.
 """
 import multiprocessing
 import os
 import shutil
+import tempfile
 
+from checks.built.python import wheel
 from checks.lib.repository import ROOT, path, read
 from checks.lib.rows import Row, Skipped, Wrong, answer, must, output, run_rows
 
@@ -28,7 +31,7 @@ class Module:
     """The module of this clone, over the shared objects of a folder."""
 
     def __init__(self, folder):
-        self.env = {**os.environ, "PYTHONPATH": f"{MODULE}:{ROOT}", "CUBEJOBS_LIB": os.path.realpath(folder)}
+        self.env = {**os.environ, "PYTHONPATH": f"{MODULE}:{ROOT}", "CUBEJOBS_LIB": folder}
 
     def runs(self, *words):
         """Runs Python with the module on its path, and returns what it writes. It must end well."""
@@ -47,13 +50,13 @@ class Module:
     def has_good_types(self):
         if not shutil.which("mypy"):
             raise Skipped("no mypy here")
-        words = ["mypy", "--strict", "--cache-dir", os.devnull, f"{MODULE}/cubejobs", f"{HERE}/typed.py",
-                 *(path("examples", it) for it in EXAMPLES)]
+        words = ["mypy", "--strict", "--cache-dir", os.devnull, f"{MODULE}/cubejobs", f"{MODULE}/backend",
+                 f"{HERE}/typed.py", *(path("examples", it) for it in EXAMPLES)]
         status, said, more = answer(words, "", text=True, env={**os.environ, "MYPYPATH": MODULE}, timeout=SECONDS)
         must(status == 0, (said + more)[-800:])
 
 
-def rows(module):
+def rows(module, work, folder):
     yield Row("the examples of its page", module.examples_of_its_page)
     yield from (Row(f"the example {it}", module.example, (it,)) for it in EXAMPLES)
     yield Row("its types", module.has_good_types)
@@ -61,9 +64,12 @@ def rows(module):
         yield from (Row(name.replace("_", " "), module.runs, (f"{HERE}/{file}", name)) for name in names)
     for method in multiprocessing.get_all_start_methods():
         yield Row(f"workers by {method}", module.runs, (f"{HERE}/forks.py", "workers_have_machines_of_their_own", method))
+    yield from wheel.rows(work, folder)
 
 
 def main(words):
     if len(words) != 1 or not os.path.isdir(words[0]):
         raise Wrong(__doc__)
-    return run_rows("python", rows(Module(words[0])))
+    folder = os.path.realpath(words[0])
+    with tempfile.TemporaryDirectory() as work:
+        return run_rows("python", rows(Module(folder), work, folder))
