@@ -434,7 +434,7 @@ class Regions(Machine):
         return self._filled(_regions.take_at, *region)
 
     def _filled(self, take: Callable[..., Any], *numbers: int) -> Optional[_Hold]:
-        handle = Handle()
+        handle, base = Handle(), -1
         try:
             found = take(self._handle, handle, *numbers)
             if found.code != DONE:
@@ -444,8 +444,9 @@ class Regions(Machine):
             self._holds[base] = hold
             return hold
         except BaseException:
-            # Ctrl-C came in between: nobody else has the handle.
-            _regions.release(self._handle, handle)
+            # Ctrl-C came in between. If the block is not kept yet, nobody has the handle.
+            if base not in self._holds:
+                _regions.release(self._handle, handle)
             raise
 
     def _give_back(self, region: Region, hold: _Hold) -> None:

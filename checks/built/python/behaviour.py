@@ -2,7 +2,10 @@
 import copy
 import gc
 import pickle
+import random
+import signal
 import sys
+import threading
 
 from checks.lib.rows import must
 from cubejobs import FirstFit, NoRoom, NotHeld, Region, Regions, StillHeld
@@ -184,6 +187,49 @@ def a_block_keeps_its_machine():
         must((block.region, upper.region) == ((0, 0), (1, 0)), f"{make.__name__}: {block}, {upper}")
         upper.release()
         block.release()
+
+
+def threads_take_turns():
+    """Has threads take from machines of which half is held, so that each take lasts long: no two get one processor."""
+    for make in MACHINES:
+        machine, found = make(16), []
+        machine.take_at(0, 15)
+
+        def work():
+            found.extend(machine.take(0).base for _ in range(2000))
+
+        threads = [threading.Thread(target=work) for _ in range(8)]
+        for thread in threads:
+            thread.start()
+        for thread in threads:
+            thread.join()
+        must(len({*found}) == 16_000 and len(machine.held()) == 16_001, f"{make.__name__}: {len({*found})} of {len(found)}")
+
+
+def ctrl_c_loses_no_block():
+    """Interrupts takes at random moments. The machine lists each block that it holds then."""
+    machine, turns, is_on, interrupts = Regions(10), random.Random(7), False, 0
+
+    def interrupt(*_):
+        if is_on:
+            raise KeyboardInterrupt
+
+    signal.signal(signal.SIGALRM, interrupt)
+    for _ in range(2000):
+        try:
+            is_on = True
+            signal.setitimer(signal.ITIMER_REAL, turns.uniform(1e-6, 1e-4))
+            while True:
+                machine.take(0)
+        except KeyboardInterrupt:
+            interrupts += 1
+        except NoRoom:
+            pass
+        is_on = False
+        must(machine.occupancy().held == len(machine.held()), f"{machine} holds {machine.occupancy().held} processors")
+        for region in machine.held():
+            machine.release(region)
+    must(interrupts > 100, f"only {interrupts} interrupts")
 
 
 def resident():
