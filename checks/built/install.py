@@ -33,12 +33,30 @@ IN_RUST = {
 FORMS = {"": "over the libraries", "source": "as plain Rust"}
 CMAKE = """cmake_minimum_required(VERSION 3.13)
 project(user C CXX)
-find_package(cubejobs 0.2 REQUIRED)
+find_package(cubejobs REQUIRED)
 add_executable(regions regions.c)
 target_link_libraries(regions cubejobs::regions)
 add_executable(jobs jobs.cpp)
 target_link_libraries(jobs cubejobs::dispatch_static cubejobs::regions_static cubejobs::c_static)
 """
+# Words of find_package, and what CMake says where it finds nothing. Before a release, its version is not there yet.
+NUMBER, _, DEV = version.of_sources().partition("-")
+OTHER = "compatible with requested version"
+PACKAGES = (
+    ("cubejobs", ""), (f"cubejobs {NUMBER} REQUIRED", DEV and OTHER), ("cubejobs 0.1 REQUIRED", OTHER),
+    ("cubejobs 99.0 REQUIRED", OTHER), ("cubejobs REQUIRED COMPONENTS c regions_static dispatch rounds", ""),
+    ("cubejobs REQUIRED COMPONENTS c nonsense", "cubejobs has no component nonsense, but c, regions, dispatch and rounds"),
+    ("cubejobs REQUIRED OPTIONAL_COMPONENTS nonsense", ""))
+# Versions, how pkg-config and CMake must compare them, and which requests of CMake they must serve or refuse.
+VERSIONS = (
+    ("0.2.1-dev", "0.2.1~dev", "0.2.0.99", "0.2 0.2.0", "0.2.1 0.2.2 0.1 0.3 0.20 1.2"),
+    ("0.2.1", "0.2.1", "0.2.1", "0.2 0.2.0 0.2.1", "0.2.2 0.1.9 0.3"),
+    ("0.3.0-dev", "0.3.0~dev", "0.2.99.99", "", "0.3 0.3.0 0.2 0.2.9"),
+    ("1.0.0-dev", "1.0.0~dev", "0.99.99.99", "", "1.0 1.0.0 0.99"),
+    ("1.2.10-dev", "1.2.10~dev", "1.2.9.99", "1.2.9 1.2", "1.2.10 1.1"),
+    ("1.10.0", "1.10.0", "1.10.0", "1.10 1.10.0", "1.1 1.9 1.10.1"),
+    ("10.10.10-dev", "10.10.10~dev", "10.10.9.99", "10.10.9", "10.10.10"),
+    ("2.10.0-dev", "2.10.0~dev", "2.9.99.99", "", "2.10 2.9"))
 GANG = """use cubejobs_pool::Pool;
 fn main() {
     let pool = Pool::builder().workers_log2(2).build().unwrap();
@@ -120,21 +138,83 @@ class Place:
         write(f"{room}/first.c", re.search(r"^```c\n(.*?)^```", read("README.md"), re.M | re.S)[1])
         must(self.linked(f"{room}/first.c", "cubejobs_regions", room) == "", "the program of README writes something")
 
-    def with_cmake(self):
+    def configured(self, name, lines, *defines):
+        """Configures a project of a user, and returns its folder, the status and what CMake says."""
         needs("cmake", "cc", "c++")
-        room = self.room("cmake")
-        write(f"{room}/CMakeLists.txt", CMAKE)
-        for name in ("regions.c", "jobs.cpp"):
-            shutil.copy(self.of("share", "doc", "cubejobs", "examples", name), room)
-        for words in (["-S", room, "-B", f"{room}/build", f"-DCMAKE_PREFIX_PATH={self.prefix}"], ["--build", f"{room}/build"]):
-            status, out, said = answer(["cmake", *words], "", text=True)
-            must(status == 0, f"cmake: {out[-300:]} {said[-600:]}")
-        for name in ("regions", "jobs"):
-            wanted = read(self.of("share", "doc", "cubejobs", "examples", f"{name}.out"))
-            must(output([f"{room}/build/{name}"]) == wanted, f"{name} has another output")
-        write(f"{room}/CMakeLists.txt", CMAKE.replace("cubejobs 0.2", "cubejobs 0.1"))
-        must(answer(["cmake", "-S", room, "-B", f"{room}/old", f"-DCMAKE_PREFIX_PATH={self.prefix}"])[0] != 0,
-             "cmake takes this version for another one")
+        room = self.room(f"cmake-{name}")
+        write(f"{room}/CMakeLists.txt", lines)
+        for file in ("regions.c", "jobs.cpp"):
+            shutil.copy(os.path.join(self.clone, "examples", file), room)
+        status, out, said = answer(["cmake", "-S", room, "-B", f"{room}/build", *defines], "", text=True)
+        return room, status, out + said
+
+    def built(self, name, *defines):
+        """Builds and runs a project, over a shared object and over archives."""
+        room, status, said = self.configured(name, CMAKE, *defines)
+        must(status == 0, f"cmake: {said[-800:]}")
+        output(["cmake", "--build", f"{room}/build"], timeout=300)
+        for example in ("regions", "jobs"):
+            wanted = read(os.path.join(self.clone, "examples", f"{example}.out"))
+            must(output([f"{room}/build/{example}"]) == wanted, f"{example} has another output")
+
+    def with_cmake(self):
+        self.built("prefix", f"-DCMAKE_PREFIX_PATH={self.prefix}")
+
+    def package_of_cmake(self, words, saying=""):
+        """Sees what CMake says of a call of find_package: that it finds nothing, or else these words."""
+        lines = CMAKE.replace("cubejobs REQUIRED", words)
+        name = re.sub(r"\W+", "-", words)
+        _, status, said = self.configured(name, lines, f"-DCMAKE_PREFIX_PATH={self.prefix}")
+        must((status != 0) == bool(saying) and saying in " ".join(said.split()), f"status {status}, {said[-600:]}")
+
+    def moved(self):
+        """What was installed below a folder names neither that folder nor the prefix to CMake, and works there. It
+        also works after a move, and for pkg-config with --define-prefix."""
+        needs("pkg-config")
+        one, other = os.path.join(self.work, "below"), os.path.join(self.work, "moved there")
+        self.must_install("--prefix", "/opt/of users", "--destdir", one)
+        self.built("below", f"-DCMAKE_PREFIX_PATH={one}/opt/of users")
+        os.rename(f"{one}/opt/of users", other)
+        self.built("moved", f"-DCMAKE_PREFIX_PATH={other}")
+        for file in ("cubejobs-config.cmake", "cubejobs-config-version.cmake"):
+            must("of users" not in read(other, "lib/cmake/cubejobs", file), f"{file} has a path of the installation")
+        env = {**os.environ, "PKG_CONFIG_PATH": f"{other}/lib/pkgconfig"}
+        said = output(["pkg-config", "--define-prefix", "--cflags", "--libs", "cubejobs_c"], env=env).replace("\\ ", " ")
+        must(said.split() == f"-I{other}/include -L{other}/lib -lcubejobs_c".split(), said)
+
+    def libraries_elsewhere(self):
+        """The folder of the libraries may lie outside the prefix. A symbolic link may lead to it."""
+        room = os.path.join(self.work, "elsewhere")
+        self.must_install("--prefix", "/opt/p", "--libdir", "/usr/lib 64", "--destdir", room)
+        self.built("elsewhere", f"-Dcubejobs_DIR={room}/usr/lib 64/cmake/cubejobs")
+        os.symlink("usr/lib 64", f"{room}/lib")
+        self.built("link", f"-Dcubejobs_DIR={room}/lib/cmake/cubejobs")
+        shutil.rmtree(f"{room}/opt/p/include")
+        _, status, said = self.configured("none", CMAKE, f"-Dcubejobs_DIR={room}/lib/cmake/cubejobs")
+        must(status != 0 and "The headers of cubejobs are not where" in " ".join(said.split()), said[-600:])
+
+    def compared_version(self, of, pkg_config, cmake, served, refused):
+        """Installs a release of a version, and sees how packages compare it."""
+        sums, room = os.path.join(self.clone, "release", "linux-x86_64", "SHA256SUMS"), os.path.join(self.work, of)
+        before = read(sums)
+        write(sums, before.replace(f"# version {version.of_sources()}\n", f"# version {of}\n"))
+        try:
+            self.must_install("--prefix", "/p", "--destdir", room)
+        finally:
+            write(sums, before)
+        file, number = f"{room}/p/lib/cmake/cubejobs/cubejobs-config-version.cmake", of.partition("-")[0]
+        said = read(room, "p/lib/pkgconfig/cubejobs_c.pc"), read(file)
+        must(f"\nVersion: {pkg_config}\n" in said[0], f"pkg-config has {said[0]}")
+        must(said[1].startswith(f'set(PACKAGE_VERSION "{cmake}")\n'), f"CMake has {said[1][:60]}")
+        needs("pkg-config", "cmake")
+        env = {**os.environ, "PKG_CONFIG_PATH": f"{room}/p/lib/pkgconfig"}
+        status, _, _ = answer(["pkg-config", f"--atleast-version={number}", "cubejobs_c"], env=env)
+        must((status == 0) == (of == number), f"pkg-config takes {of} for {number}: {status == 0}")
+        for wanted, is_served in [*((it, True) for it in served.split()), *((it, False) for it in refused.split())]:
+            lines = f'set(PACKAGE_FIND_VERSION "{wanted}")', f'include("{file}")', 'message("${PACKAGE_VERSION_COMPATIBLE}")'
+            write(f"{room}/ask.cmake", "\n".join(lines))
+            _, _, said = answer(["cmake", "-P", f"{room}/ask.cmake"], "", text=True)
+            must(said == ("TRUE\n" if is_served else "\n"), f"CMake takes {of} for {wanted}: {said!r}")
 
     def with_cargo(self, form):
         """Builds a package of a user, which has all examples in Rust. The installed files stay as they are."""
@@ -299,7 +379,10 @@ def rows(place):
         yield Row(f"a package of Rust {said}", place.with_cargo, (form,))
         for name in (*IN_RUST, *pool.EXAMPLES):
             yield Row(f"the example {name} {said}", place.in_rust, (form, name))
-    for act in (place.the_program_of_the_readme, place.with_cmake, place.with_cargo_doc, place.as_packages,
+    for words, saying in PACKAGES:
+        yield Row(f"find_package({words})", place.package_of_cmake, (words, saying))
+    yield from (Row(f"packages of {it[0]}", place.compared_version, it) for it in VERSIONS)
+    for act in (place.the_program_of_the_readme, place.with_cmake, place.moved, place.libraries_elsewhere, place.with_cargo_doc, place.as_packages,
                 place.with_python, place.with_man, place.again, place.of_a_later_version, place.uninstalled,
                 place.for_a_package, place.for_another_processor, place.damaged, place.without_rights, place.with_few_tools):
         yield Row(act.__name__.replace("_", " "), act)
