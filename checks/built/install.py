@@ -6,10 +6,12 @@ package of a user, over the libraries and as plain Rust. A part whose tool is mi
 nothing may be left. Bad options, a damaged file and a folder that cannot be written end with their status, and change
 nothing.
 """
+import copy
 import hashlib
 import os
 import re
 import shutil
+import stat
 import subprocess
 import tempfile
 
@@ -57,6 +59,23 @@ VERSIONS = (
     ("1.10.0", "1.10.0", "1.10.0", "1.10 1.10.0", "1.1 1.9 1.10.1"),
     ("10.10.10-dev", "10.10.10~dev", "10.10.9.99", "10.10.9", "10.10.10"),
     ("2.10.0-dev", "2.10.0~dev", "2.9.99.99", "", "2.10 2.9"))
+# The files of each part, as patterns of their paths below the prefix: each file fits one, and each pattern has a file.
+DOC = r"share/doc/cubejobs"
+PARTS = {
+    "c": (r"include/cubejobs\w*\.h(pp)?", r"lib/libcubejobs_(c|regions|dispatch|rounds)\.a",
+          r"lib/libcubejobs_(c|regions|dispatch|rounds)\.so(\.\d+\.\d+(\.\d+)?)?", r"lib/pkgconfig/cubejobs\w*\.pc",
+          r"lib/cmake/cubejobs/cubejobs-config(-version)?\.cmake", r"share/man/man3/cubejobs_\w+\.3", rf"{DOC}/docs/C\.md",
+          rf"{DOC}/examples/\w+\.c(pp)?", rf"{DOC}/examples/(?!processes)\w+\.out", rf"{DOC}/examples/batch\.jobs",
+          rf"{DOC}/examples/mpi/\w+\.(c|md)"),
+    "rust": (r"share/cubejobs/rust/.*", rf"{DOC}/docs/(RUST|SOURCE)\.md", rf"{DOC}/examples/batch\.jobs"),
+    "python": (r"share/cubejobs/python/cubejobs/(\w+\.py|py\.typed)", rf"{DOC}/examples/processes\.(py|out)",
+               r"lib/libcubejobs_(c|regions)\.so\.\d+\.\d+(\.\d+)?"),
+    "program": (r"bin/cubejobs", r"share/man/man1/cubejobs\.1", r"share/cubejobs/index\.html",
+                r"share/bash-completion/completions/cubejobs", r"share/zsh/site-functions/_cubejobs",
+                r"share/fish/vendor_completions\.d/cubejobs\.fish", rf"{DOC}/docs/GUIDE\.md",
+                rf"{DOC}/examples/(schedules/)?[\w-]+\.csv"),
+    "docs": (rf"{DOC}/(README|CHANGELOG|SECURITY)\.md", rf"{DOC}/docs/.*", rf"{DOC}/examples/.*"),
+}
 GANG = """use cubejobs_pool::Pool;
 fn main() {
     let pool = Pool::builder().workers_log2(2).build().unwrap();
@@ -216,8 +235,8 @@ class Place:
             _, _, said = answer(["cmake", "-P", f"{room}/ask.cmake"], "", text=True)
             must(said == ("TRUE\n" if is_served else "\n"), f"CMake takes {of} for {wanted}: {said!r}")
 
-    def with_cargo(self, form):
-        """Builds a package of a user, which has all examples in Rust. The installed files stay as they are."""
+    def with_cargo(self, form, examples=(*IN_RUST, *pool.EXAMPLES)):
+        """Builds a package of a user, which has these examples in Rust. The installed files stay as they are."""
         needs("cargo", "cc")
         before, room, rust = tree(self.prefix), self.room(f"cargo-{form}"), self.of("share", "cubejobs", "rust")
         lines = ["[package]", 'name = "user"', 'version = "0.1.0"', 'edition = "2021"', "[dependencies]",
@@ -226,7 +245,7 @@ class Place:
         write(f"{room}/Cargo.toml", "\n".join(lines))
         write(f"{room}/src/main.rs", GANG)
         os.makedirs(f"{room}/examples")
-        for name in (*IN_RUST, *pool.EXAMPLES):
+        for name in examples:
             shutil.copy(f"{rust}/{'' if name in IN_RUST else 'pool/'}examples/{name}.rs", f"{room}/examples")
         words = ["cargo", "build", "--quiet", "--offline", "--release", "--bins", "--examples"]
         output(words, cwd=room, env={**os.environ, "CARGO_TARGET_DIR": f"{room}/target"}, timeout=600)
@@ -268,6 +287,9 @@ class Place:
         folder = self.of("share", "cubejobs", "python")
         said = output(["python3", "-B", "-c", "import cubejobs; print(cubejobs.Regions(3).take(3))"], cwd=folder)
         must(said == "Block(base=0, dim=3)\n", said)
+        env = {**os.environ, "PYTHONPATH": folder}
+        said = output(["python3", "-B", self.of("share/doc/cubejobs/examples/processes.py")], env=env)
+        must(said == read(self.of("share/doc/cubejobs/examples/processes.out")), said)
 
     def with_man(self):
         needs("man")
@@ -303,6 +325,105 @@ class Place:
         must([*tree(self.prefix)] == ["include", "include/other.h"], f"these are left: {[*tree(self.prefix)][:5]}")
         status, _, said = self.install("--prefix", self.prefix, "--uninstall")
         must(status == 1 and "nothing is installed" in said, f"a second one: status {status}, {said!r}")
+
+    def at(self, name):
+        """Returns a place with the same clone, and a prefix and a room of its own."""
+        other = copy.copy(self)
+        other.work = self.room(name)
+        other.prefix = os.path.join(other.work, "the prefix")
+        return other
+
+    def add(self, *parts):
+        self.must_install("--prefix", self.prefix, *(word for part in parts for word in ("--only", part)))
+
+    def files(self):
+        """Returns the installed files, except the list of them."""
+        return {name for name, (mode, _) in tree(self.prefix).items() if not stat.S_ISDIR(mode)} - {"share/cubejobs/installed"}
+
+    def must_be_parts(self, *parts):
+        """Sees that the files are exactly of these parts, and that the list has the parts and the files."""
+        patterns, found = [it for part in parts for it in PARTS[part]], self.files()
+        listed = read(self.of("share/cubejobs/installed")).splitlines()
+        more = [it for it in found if not any(re.fullmatch(pattern, it) for pattern in patterns)]
+        less = [pattern for pattern in patterns if not any(re.fullmatch(pattern, it) for it in found)]
+        must(not more and not less, f"{parts}: {more[:5]} are of no part, nothing is of {less}")
+        must([it for it in listed if it.startswith("part ")] == [f"part {it}" for it in sorted(parts)], "the list has other parts")
+        must({f"file {self.of(it)}" for it in found} == {it for it in listed if it.startswith("file ")}, "the list has other files")
+
+    def use(self, part):
+        """Uses a part as its users do."""
+        if part == "c":
+            self.with_pkg_config("regions.c")
+            self.with_pkg_config("blocks.cpp")
+            self.built("prefix", f"-DCMAKE_PREFIX_PATH={self.prefix}")
+        if part == "rust":
+            self.with_cargo("", ())
+            must(output([os.path.join(self.work, "cargo-/target/release/user")]) == "[6, 6, 6, 6]\n", "the gang has another sum")
+        if part == "python":
+            self.with_python()
+        if part == "program":
+            self.with_the_program()
+
+    def only(self, part):
+        """A part alone has its files, works, and goes as a whole."""
+        place = self.at(f"only {part}")
+        place.add(part)
+        place.must_be_parts(part)
+        try:
+            place.use(part)
+        finally:
+            place.must_install("--prefix", place.prefix, "--uninstall")
+            must(not os.path.exists(place.prefix), f"these are left: {[*tree(place.prefix)][:5]}")
+
+    def parts_together(self):
+        """A further part is added, and those before stay. An installation of all parts replaces them."""
+        place = self.at("parts")
+        place.add("c")
+        before = {name: it for name, it in tree(place.prefix).items() if name in place.files()}
+        place.add("python", "program")
+        place.must_be_parts("c", "python", "program")
+        must(before.items() <= tree(place.prefix).items(), "files of the first part are others")
+        place.add("c")
+        place.must_be_parts("c", "python", "program")
+        place.use("c")
+        place.add()
+        place.must_be_parts(*PARTS)
+        whole = self.at("whole")
+        whole.add()
+        must(place.files() == whole.files(), "all parts, one after the other, are not all")
+        place.must_install("--prefix", place.prefix, "--uninstall")
+        must(not os.path.exists(place.prefix), f"these are left: {[*tree(place.prefix)][:5]}")
+
+    def parts_of_a_later_version(self):
+        """What the new version of a part has no more goes, also if another part is added. An installation of a version
+        that had no parts is one of all."""
+        place = self.at("later")
+        place.add("rust", "python")
+        old = place.of("share/cubejobs/python/cubejobs/old.py")
+        put(old)
+        put(os.path.join(os.path.dirname(old), "__pycache__/old.cpython-311.pyc"))
+        with open(place.of("share/cubejobs/installed"), "a", encoding="utf-8") as it:
+            it.write(f"file {old}\n")
+        place.add("program")
+        place.must_be_parts("rust", "python", "program")
+        must(not os.path.exists(os.path.join(os.path.dirname(old), "__pycache__")), "what Python kept of a module is left")
+        place.add()
+        listed = place.of("share/cubejobs/installed")
+        write(listed, re.sub(r"^part \w+\n", "", read(listed), flags=re.M))
+        place.add("c")
+        place.must_be_parts(*PARTS)
+
+    def used_by_python(self):
+        """What Python keeps of the module goes with it."""
+        needs("python3")
+        place = self.at("used by python")
+        place.add("python")
+        folder = place.of("share/cubejobs/python")
+        env = {name: it for name, it in os.environ.items() if name != "PYTHONDONTWRITEBYTECODE"}
+        output(["python3", "-c", "import cubejobs"], cwd=folder, env=env)
+        must(os.path.isdir(f"{folder}/cubejobs/__pycache__"), "Python has kept nothing")
+        place.must_install("--prefix", place.prefix, "--uninstall")
+        must(not os.path.exists(place.prefix), f"these are left: {[*tree(place.prefix)][:5]}")
 
     def for_a_package(self):
         """With --destdir the same files go below a folder, and name the prefix alone."""
@@ -382,13 +503,18 @@ def rows(place):
     for words, saying in PACKAGES:
         yield Row(f"find_package({words})", place.package_of_cmake, (words, saying))
     yield from (Row(f"packages of {it[0]}", place.compared_version, it) for it in VERSIONS)
+    yield from (Row(f"the part {it} alone", place.only, (it,)) for it in PARTS)
     for act in (place.the_program_of_the_readme, place.with_cmake, place.moved, place.libraries_elsewhere, place.with_cargo_doc, place.as_packages,
                 place.with_python, place.with_man, place.again, place.of_a_later_version, place.uninstalled,
+                place.parts_together, place.parts_of_a_later_version, place.used_by_python,
                 place.for_a_package, place.for_another_processor, place.damaged, place.without_rights, place.with_few_tools):
         yield Row(act.__name__.replace("_", " "), act)
     for words, wanted, saying in ((["--prefx", "/x"], 2, "no option --prefx"), (["--prefix"], 2, "needs a folder"),
                                   (["--prefix", "here"], 2, "begins with /"), (["--prefix", "/a\nb"], 2, "a line break"),
-                                  (["--processor"], 2, "needs a name")):
+                                  (["--processor"], 2, "needs a name"), (["--only"], 2, "needs a part"),
+                                  (["--only", "c rust"], 2, "no part c rust"),
+                                  (["--only", "nonsense"], 2, "the parts are c rust python program docs"),
+                                  (["--uninstall", "--only", "c"], 2, "takes no --only")):
         yield Row(f"the words {words!r}", place.refusal, (words, wanted, saying))
 
 
