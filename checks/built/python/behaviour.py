@@ -232,13 +232,13 @@ def ctrl_c_loses_no_block():
     must(interrupts > 100, f"only {interrupts} interrupts")
 
 
-def resident():
+def _resident():
     with open("/proc/self/statm", encoding="ascii") as it:
         return int(it.read().split()[1]) * 4096
 
 
 def dropped_machines_keep_no_memory():
-    before = resident()
+    before = _resident()
     for _ in range(1000):
         Regions(20)
         # Blocks that are forgotten, joined and split too.
@@ -248,7 +248,7 @@ def dropped_machines_keep_no_memory():
         lower.split()
         machine.take(3).split().split()
     del machine, lower
-    kept = resident() - before
+    kept = _resident() - before
     must(kept < KEPT, f"2,000 machines keep {kept:,} bytes")
 
 

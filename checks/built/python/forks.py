@@ -73,17 +73,17 @@ def all_is_shut(pairs):
     a_new_machine_works()
 
 
-def opened():
+def _opened():
     machines = Regions(3), FirstFit(3)
     return [(machine, machine.take(1)) for machine in machines]
 
 
 def a_child_finds_all_shut():
-    pairs = opened()
+    pairs = _opened()
 
     def act():
         all_is_shut(pairs)
-        more = opened()
+        more = _opened()
         in_a_child(lambda: all_is_shut(pairs + more))
         for machine, block in more:
             machine.release(block)
@@ -99,7 +99,7 @@ def a_child_finds_all_shut():
 
 
 def the_exception_of_a_body_comes_out():
-    for it in (*opened()[0], *opened()[1]):
+    for it in (*_opened()[0], *_opened()[1]):
 
         def act(it=it):
             with it:
@@ -109,7 +109,7 @@ def the_exception_of_a_body_comes_out():
 
 
 def children_come_while_threads_call():
-    pairs, has_ended = opened(), threading.Event()
+    pairs, has_ended = _opened(), threading.Event()
 
     def work(machine):
         while not has_ended.is_set():
@@ -132,7 +132,7 @@ def children_come_while_threads_call():
 
 
 def locks_of_a_thread_that_is_gone_stop_nothing():
-    pairs, is_held, may_go = opened(), threading.Event(), threading.Event()
+    pairs, is_held, may_go = _opened(), threading.Event(), threading.Event()
 
     def hold():
         with pairs[0][0]._lock, pairs[1][0]._lock, cubejobs._process.lock:
@@ -163,7 +163,7 @@ def processors_of(region):
 
 def workers_have_machines_of_their_own(method):
     """Has workers of a start method open machines. What a fork gave them is shut, and nothing else is sent."""
-    FOUND.update(enumerate(opened()))
+    FOUND.update(enumerate(_opened()))
     with multiprocessing.get_context(method).Pool(4) as pool:
         done = pool.map(take_here, range(16), chunksize=1)
         must([number for number, _ in done] == [*range(16)], f"{done}")
