@@ -53,6 +53,7 @@ pub fn inside<T>(call: impl FnOnce(&'static Machine) -> T) -> Option<T> {
 }
 
 /// Returns the dimension of a block for this memory, unless it is too large.
+#[must_use]
 pub fn dim_of(layout: Layout) -> Option<u32> {
     // A block is aligned to its size.
     let units = layout.size().max(layout.align()).div_ceil(UNIT);

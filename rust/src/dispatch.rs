@@ -250,7 +250,9 @@ impl<P: Payload> Dispatcher<P> {
     /// Opens a dispatcher with a machine of dimension `dim`, of which each processor is free, and
     /// with lanes that have no job.
     ///
-    /// The error is the first of these that applies: `BadDimension`, `BadSizes`, `OutOfMemory`.
+    /// # Errors
+    ///
+    /// The first of these that applies: `BadDimension`, `BadSizes`, `OutOfMemory`.
     ///
     /// ```
     /// use cubejobs::dispatch::{Dispatcher, OpenError, Sizes, SubmitError};
@@ -278,6 +280,10 @@ impl<P: Payload> Dispatcher<P> {
     }
 
     /// Returns the handle of the first lane that is not out. See [`Dispatcher::new`].
+    ///
+    /// # Errors
+    ///
+    /// `NoneLeft` if all lanes are out, or `OutOfMemory`.
     pub fn lane(&self) -> Result<Lane<P>, DealError> {
         let handle = self.room.lane().map_err(DealError::of)?;
         Ok(Lane { room: self.room.clone(), handle })
@@ -285,6 +291,10 @@ impl<P: Payload> Dispatcher<P> {
 
     /// Returns the handle of a worker that is not out: one that was dropped as it kept a job or
     /// slept, or else the first. See [`Worker::try_next`].
+    ///
+    /// # Errors
+    ///
+    /// `NoneLeft` if all workers are out, or `OutOfMemory`.
     pub fn worker(&self) -> Result<Worker<P>, DealError> {
         let (handle, number, keeps) = self.room.worker().map_err(DealError::of)?;
         Ok(Worker { room: self.room.clone(), handle, number, keeps, runs: false })
@@ -295,6 +305,7 @@ impl<P: Payload> Dispatcher<P> {
     ///
     /// Each worker that sleeps gets up. If threads are parked by means of yours, unpark those of
     /// all workers.
+    #[allow(clippy::must_use_candidate)] // the number is no use to some
     pub fn close(&self) -> Option<u64> {
         self.room.close()
     }
@@ -302,7 +313,9 @@ impl<P: Payload> Dispatcher<P> {
     /// Ends the dispatcher, and returns the jobs that are left. It closes the lanes, unless they
     /// are closed.
     ///
-    /// If a handle is out, it returns the dispatcher, closed, and names the handle.
+    /// # Errors
+    ///
+    /// If a handle is out, returns the dispatcher, closed, and names the handle.
     ///
     /// ```
     /// use cubejobs::dispatch::{Dispatcher, NextError, Sizes};
@@ -330,10 +343,12 @@ impl<P: Payload> Dispatcher<P> {
 impl<P: Payload> Lane<P> {
     /// Submits a job that wants a block of dimension `dim`. Then it gives a token to a worker that
     /// sleeps, unless a worker is looking for jobs. With the feature `std` it also wakes the thread
-    /// of that worker.
+    /// of that worker. See [`Dispatcher::new`].
     ///
-    /// The error is the first of these that applies: `BadDimension`, `Closed`, `Spent`, `Full`.
-    /// With `Full` the lane had as many jobs as its capacity. See [`Dispatcher::new`].
+    /// # Errors
+    ///
+    /// The first of these that applies: `BadDimension`, `Closed`, `Spent`, `Full`. With `Full` the
+    /// lane had as many jobs as its capacity.
     pub fn submit(&mut self, payload: P, dim: u32) -> Result<Accepted, Refused<SubmitError, P>> {
         let word = payload.into_word();
         let submitted = ffi::cubejobs_dispatch_submit(&mut self.handle, word, dim);
@@ -350,20 +365,23 @@ impl<P: Payload> Lane<P> {
 impl<P: Payload> Worker<P> {
     /// Returns the number of the worker: from 0 on, below the number of workers. See
     /// [`Worker::find`].
+    #[must_use]
     pub fn number(&self) -> u32 {
         self.number
     }
 
     /// Returns whether the worker keeps a job for which no block was found. See
     /// [`Worker::give_back`].
+    #[must_use]
     pub fn keeps_job(&self) -> bool {
         self.keeps
     }
 
     /// Takes the next job, or the one that the worker keeps, with a block. It never sleeps.
     ///
-    /// The error is the first of these that applies: `Asleep`, `OlderJob`, `Empty`, `Ended`,
-    /// `NoRegion`.
+    /// # Errors
+    ///
+    /// The first of these that applies: `Asleep`, `OlderJob`, `Empty`, `Ended`, `NoRegion`.
     ///
     /// ```
     /// use cubejobs::dispatch::{Dispatcher, NextError, Running, Sizes};
@@ -535,6 +553,7 @@ impl<P: Payload> Worker<P> {
     }
 
     /// Wakes the workers that sleep until they have a block.
+    #[allow(clippy::unused_self)] // without the feature `std` no thread sleeps here
     fn raise(&self) {
         #[cfg(feature = "std")]
         self.room.event.raise();
@@ -563,6 +582,7 @@ impl<P: Payload> Running<'_, P> {
 
 impl<P: Payload> Block<'_, P> {
     /// Returns the held block. See [`Worker::try_next`].
+    #[must_use]
     pub fn region(&self) -> Region {
         self.region
     }

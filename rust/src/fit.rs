@@ -74,29 +74,49 @@ pub enum ReleaseError {
 impl<B: AsRef<[bool]> + AsMut<[bool]>> FirstFit<B> {
     /// Makes a machine of dimension `dim` with each processor free. Sets the first `2^dim` places
     /// of `bits` to `false`, and never uses the others.
+    ///
+    /// # Errors
+    ///
+    /// The first of these that applies: `BadDimension`, `TooSmall`.
     pub fn new(mut bits: B, dim: u32) -> Result<Self, OpenError> {
         opened(fit_ffi::open(bits.as_mut(), dim))?;
         Ok(FirstFit { bits, dim })
     }
 
     /// Makes a machine of dimension `dim`. A processor is held if its place in `bits` is `true`.
+    ///
+    /// # Errors
+    ///
+    /// The first of these that applies: `BadDimension`, `TooSmall`.
     pub fn resume(bits: B, dim: u32) -> Result<Self, OpenError> {
         opened(fit_ffi::check(bits.as_ref(), dim))?;
         Ok(FirstFit { bits, dim })
     }
 
     /// Takes the first fit of dimension `k`: the free block with the least base.
+    ///
+    /// # Errors
+    ///
+    /// The first of these that applies: `BadDimension`, `NoSubcube`.
     pub fn take(&mut self, k: u32) -> Result<Region, TakeError> {
         taken(fit_ffi::take(self.bits.as_mut(), self.dim, k))
     }
 
     /// Takes the block of dimension `k` that begins at the processor `base`.
+    ///
+    /// # Errors
+    ///
+    /// The first of these that applies: `BadDimension`, `BadBase`, `NoSubcube`.
     pub fn take_at(&mut self, base: u64, k: u32) -> Result<Region, TakeError> {
         taken(fit_ffi::take_region(self.bits.as_mut(), self.dim, base, k))
     }
 
     /// Releases a block. Each of its processors must be held. It may be a block that you took, an
     /// aligned part of one, or several together.
+    ///
+    /// # Errors
+    ///
+    /// The first of these that applies: `BadDimension`, `BadBase`, `NothingHeld`.
     pub fn release(&mut self, region: Region) -> Result<(), ReleaseError> {
         match fit_ffi::release(self.bits.as_mut(), self.dim, region.base, region.dim) {
             ffi::DONE => Ok(()),

@@ -281,7 +281,9 @@ impl Kind for Plain {
 impl<P: Payload> Lanes<P> {
     /// Opens lanes with no job.
     ///
-    /// The error is the first of these that applies: `BadSizes`, `OutOfMemory`.
+    /// # Errors
+    ///
+    /// The first of these that applies: `BadSizes`, `OutOfMemory`.
     ///
     /// ```
     /// use cubejobs::lanes::{DealError, Lanes, OpenError, Sizes};
@@ -307,6 +309,10 @@ impl<P: Payload> Lanes<P> {
     }
 
     /// Returns the handle of the first lane that is not out. See [`Lanes::new`].
+    ///
+    /// # Errors
+    ///
+    /// `NoneLeft` if all lanes are out, or `OutOfMemory`.
     pub fn lane(&self) -> Result<Lane<P>, DealError> {
         let handle = self.room.lane().map_err(DealError::of)?;
         Ok(Lane { room: self.room.clone(), handle })
@@ -314,6 +320,10 @@ impl<P: Payload> Lanes<P> {
 
     /// Returns the handle of a worker that is not out: one that was dropped as it slept, or else
     /// the first. See [`Worker::take`].
+    ///
+    /// # Errors
+    ///
+    /// `NoneLeft` if all workers are out, or `OutOfMemory`.
     pub fn worker(&self) -> Result<Worker<P>, DealError> {
         let (handle, number, _) = self.room.worker().map_err(DealError::of)?;
         Ok(Worker {
@@ -330,13 +340,16 @@ impl<P: Payload> Lanes<P> {
     ///
     /// Each worker that sleeps gets up. If threads are parked by means of yours, unpark those of
     /// all workers.
+    #[allow(clippy::must_use_candidate)] // the number is no use to some
     pub fn close(&self) -> Option<u64> {
         self.room.close()
     }
 
     /// Ends the lanes, and returns the jobs that are left. It closes them, unless they are closed.
     ///
-    /// If a handle is out, it returns the lanes, closed, and names the handle.
+    /// # Errors
+    ///
+    /// If a handle is out, returns the lanes, closed, and names the handle.
     ///
     /// ```
     /// use cubejobs::lanes::{Lanes, Sizes};
@@ -362,8 +375,10 @@ impl<P: Payload> Lane<P> {
     /// Submits a job. Then it gives a token to a worker that sleeps, unless a worker is looking for
     /// jobs. With the feature `std` it also wakes the thread of that worker.
     ///
-    /// The error is the first of these that applies: `Closed`, `Spent`, `Full`. With `Full` the
-    /// lane had as many jobs as its capacity.
+    /// # Errors
+    ///
+    /// The first of these that applies: `Closed`, `Spent`, `Full`. With `Full` the lane had as many
+    /// jobs as its capacity.
     ///
     /// ```
     /// use cubejobs::lanes::{Lanes, Sizes, SubmitError};
@@ -391,13 +406,16 @@ impl<P: Payload> Lane<P> {
 impl<P: Payload> Worker<P> {
     /// Returns the number of the worker: from 0 on, below the number of workers. See
     /// [`Worker::find`].
+    #[must_use]
     pub fn number(&self) -> u32 {
         self.number
     }
 
     /// Takes the first job of a lane. With `Empty` and `Ended` it had none at a moment of the call.
     ///
-    /// The error is the first of these that applies: `Asleep`, `BadLane`, `Empty`, `Ended`, `Lost`.
+    /// # Errors
+    ///
+    /// The first of these that applies: `Asleep`, `BadLane`, `Empty`, `Ended`, `Lost`.
     ///
     /// ```
     /// use cubejobs::lanes::{Lanes, Sizes, TakeError};
@@ -417,18 +435,23 @@ impl<P: Payload> Worker<P> {
         Self::taken(ffi::cubejobs_lanes_take(&mut self.handle, lane))
     }
 
-    /// Goes round all lanes, from lane `from` on, and takes the first job that it can.
+    /// Goes round all lanes, from lane `from` on, and takes the first job that it can. See
+    /// [`Worker::take`].
     ///
-    /// The error is the first of these that applies: `Asleep`, `BadLane`, `Empty` (no lane has a
-    /// job, or other workers took it), `Ended`. See [`Worker::take`].
+    /// # Errors
+    ///
+    /// The first of these that applies: `Asleep`, `BadLane`, `Empty` (no lane has a job, or other
+    /// workers took it), `Ended`.
     pub fn take_any(&mut self, from: u32) -> Result<Job<P>, TakeError> {
         Self::taken(ffi::cubejobs_lanes_take_any(&mut self.handle, from))
     }
 
     /// Returns the number of jobs in a lane that the worker knows of, at least 1. It takes none.
+    /// See [`Worker::take`].
     ///
-    /// The error is the first of these that applies: `Asleep`, `BadLane`, `Empty`, `Ended`. See
-    /// [`Worker::take`].
+    /// # Errors
+    ///
+    /// The first of these that applies: `Asleep`, `BadLane`, `Empty`, `Ended`.
     pub fn look(&mut self, lane: u32) -> Result<u64, TakeError> {
         let looked = ffi::cubejobs_lanes_look(&mut self.handle, lane);
         match looked.code {

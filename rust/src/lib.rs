@@ -140,6 +140,10 @@ pub enum ReleaseError {
 
 impl Machine {
     /// Makes a machine of dimension `dim` whose stations hold nothing.
+    ///
+    /// # Errors
+    ///
+    /// [`BadDimension`] if the dimension is above [`MAX_DIM`].
     pub fn new(dim: u32) -> Result<Self, BadDimension> {
         match ffi::open(dim) {
             Some(inner) => Ok(Machine { inner }),
@@ -148,6 +152,7 @@ impl Machine {
     }
 
     /// Returns the dimension of the machine.
+    #[must_use]
     pub fn dim(&self) -> u32 {
         self.inner.dim()
     }
@@ -155,8 +160,9 @@ impl Machine {
     /// Takes the first fit of dimension `k` for a station that holds nothing. That is the block
     /// with the least base among those that overlap no held block.
     ///
-    /// The error is the first of these that applies: `BadStation`, `BadDimension`, `StationHolds`,
-    /// `NoSubcube`.
+    /// # Errors
+    ///
+    /// The first of these that applies: `BadStation`, `BadDimension`, `StationHolds`, `NoSubcube`.
     pub fn take(&mut self, station: u32, k: u32) -> Result<Region, TakeError> {
         self.inner.take(station, k).taken()
     }
@@ -164,7 +170,9 @@ impl Machine {
     /// Takes the first fit of dimension `k` for the first station, by number, that holds nothing.
     /// Returns the station and the block.
     ///
-    /// The error is the first of these that applies: `BadDimension`, `NoStation`, `NoSubcube`.
+    /// # Errors
+    ///
+    /// The first of these that applies: `BadDimension`, `NoStation`, `NoSubcube`.
     pub fn take_any(&mut self, k: u32) -> Result<(u32, Region), TakeError> {
         let ffi::StationAnswer { code, station, dim, base } = self.inner.take_any(k);
         let region = ffi::Answer { code, dim, base }.taken()?;
@@ -174,13 +182,16 @@ impl Machine {
     /// Takes the block of dimension `k` that begins at the processor `base`, for a station that
     /// holds nothing.
     ///
-    /// The error is the first of these that applies: `BadStation`, `BadDimension`, `BadBase`,
-    /// `StationHolds`, `NoSubcube`.
+    /// # Errors
+    ///
+    /// The first of these that applies: `BadStation`, `BadDimension`, `BadBase`, `StationHolds`,
+    /// `NoSubcube`.
     pub fn take_region(&mut self, station: u32, base: u64, k: u32) -> Result<Region, TakeError> {
         self.inner.take_region(station, base, k).taken()
     }
 
     /// Returns the block that a station holds, if there is such a station and it holds one.
+    #[must_use]
     pub fn region(&self, station: u32) -> Option<Region> {
         let answer = self.inner.region(station);
         (answer.code == ffi::DONE).then(|| answer.region())
@@ -188,11 +199,16 @@ impl Machine {
 
     /// Returns how many blocks of dimension `k` overlap no held block. It is 0 if `k` is above the
     /// machine's dimension.
+    #[must_use]
     pub fn free_regions(&self, k: u32) -> u64 {
         self.inner.free_regions(k)
     }
 
     /// Releases the block of a station, and returns it.
+    ///
+    /// # Errors
+    ///
+    /// The first of these that applies: `BadStation`, `NothingHeld`.
     pub fn release(&mut self, station: u32) -> Result<Region, ReleaseError> {
         let answer = self.inner.release(station);
         match answer.code {
@@ -205,12 +221,14 @@ impl Machine {
 
     /// Returns the station whose block has this processor, if there is one. A number above those of
     /// the machine's processors is in no block.
+    #[must_use]
     pub fn holder(&self, processor: u64) -> Option<u32> {
         let holder = self.inner.holder(processor);
         holder.found.then_some(holder.station)
     }
 
     /// Returns whether no station holds a block.
+    #[must_use]
     pub fn is_wholly_free(&self) -> bool {
         self.inner.is_wholly_free()
     }

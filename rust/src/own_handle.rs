@@ -44,6 +44,7 @@ use std::time::{Duration, Instant};
 /// [`release`]: Handle::release
 /// [`take_or_wait`]: Handle::take_or_wait
 /// [`take_timeout`]: Handle::take_timeout
+#[must_use = "a drop shuts the handle"]
 pub struct Handle<M: Borrow<Machine>> {
     machine: M,
     handle: ffi::Handle,
@@ -53,6 +54,7 @@ impl<M: Borrow<Machine>> Handle<M> {
     /// Opens a handle as [`Machine::handle`] does, of a machine by reference or by `Arc`.
     ///
     /// # Errors
+    ///
     /// `OutOfMemory`.
     pub fn new(machine: M) -> Result<Self, OpenError> {
         let opened = machine.borrow().handles.another();
@@ -71,6 +73,7 @@ impl<M: Borrow<Machine>> Handle<M> {
     /// Releases a block of the machine, which any thread may have taken.
     ///
     /// # Errors
+    ///
     /// Returns the block if it is of another machine.
     pub fn release<N: Borrow<Machine>>(&mut self, mut block: Block<N>) -> Result<(), Block<N>> {
         if ffi::release(&mut self.handle, &mut block.handle) != ffi::DONE {
@@ -83,6 +86,7 @@ impl<M: Borrow<Machine>> Handle<M> {
     /// Splits a block of the machine into its lower and its upper half.
     ///
     /// # Errors
+    ///
     /// Returns the block if it has one processor, or is of another machine.
     pub fn split<N: Borrow<Machine> + Clone>(
         &mut self,
@@ -94,6 +98,7 @@ impl<M: Borrow<Machine>> Handle<M> {
     /// Joins the lower and the upper half of a block of the machine.
     ///
     /// # Errors
+    ///
     /// Returns the two if they are not that.
     pub fn join<N: Borrow<Machine>>(
         &mut self,
@@ -113,6 +118,7 @@ impl<M: Borrow<Machine> + Clone> Handle<M> {
     /// Takes a block as [`Machine::take`] does.
     ///
     /// # Errors
+    ///
     /// `BadDimension` or `NotNow`.
     pub fn take(&mut self, k: u32) -> Result<Block<M>, TakeError> {
         self.take_by(|thread, handle| ffi::take(thread, handle, k))
@@ -121,6 +127,7 @@ impl<M: Borrow<Machine> + Clone> Handle<M> {
     /// Takes a block as [`Machine::take_exact`] does.
     ///
     /// # Errors
+    ///
     /// The first of these that applies: `BadDimension`, `NoRoom`, `NotNow`.
     pub fn take_exact(&mut self, k: u32) -> Result<Block<M>, TakeError> {
         self.take_by(|thread, handle| ffi::take_exact(thread, handle, k))
@@ -129,6 +136,7 @@ impl<M: Borrow<Machine> + Clone> Handle<M> {
     /// Takes this block as [`Machine::take_at`] does.
     ///
     /// # Errors
+    ///
     /// The first of these that applies: `BadDimension`, `BadBase`, `Taken`, `NotNow`.
     pub fn take_at(&mut self, region: Region) -> Result<Block<M>, TakeError> {
         self.take_by(|thread, handle| ffi::take_at(thread, handle, region.base, region.dim))
@@ -137,6 +145,7 @@ impl<M: Borrow<Machine> + Clone> Handle<M> {
     /// Takes a block as [`Machine::take_or_wait`] does, and sleeps until it can.
     ///
     /// # Errors
+    ///
     /// The first of these that applies: `Stopped`, `BadDimension`.
     #[cfg(feature = "std")]
     pub fn take_or_wait(&mut self, k: u32) -> Result<Block<M>, TakeError> {
@@ -147,6 +156,7 @@ impl<M: Borrow<Machine> + Clone> Handle<M> {
     /// `timeout`.
     ///
     /// # Errors
+    ///
     /// The first of these that applies: `Stopped`, `BadDimension`, `TimedOut`.
     #[cfg(feature = "std")]
     pub fn take_timeout(&mut self, k: u32, timeout: Duration) -> Result<Block<M>, TakeError> {

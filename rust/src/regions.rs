@@ -155,13 +155,17 @@ pub struct StillHeld {
 
 impl Machine {
     /// Opens a machine of dimension `dim`. Each processor is free.
+    ///
+    /// # Errors
+    ///
+    /// The first of these that applies: `BadDimension`, `OutOfMemory`.
     pub fn new(dim: u32) -> Result<Self, OpenError> {
         match Handles::open(dim) {
             Ok(handles) => Ok(Machine {
                 handles,
                 dim,
                 #[cfg(feature = "std")]
-                event: Default::default(),
+                event: crate::event::Event::default(),
             }),
             Err(ffi::BAD_DIMENSION) => Err(OpenError::BadDimension),
             Err(ffi::OUT_OF_MEMORY) => Err(OpenError::OutOfMemory),
@@ -178,34 +182,47 @@ impl Machine {
     /// [`Handle`].
     ///
     /// # Errors
+    ///
     /// `OutOfMemory`.
     pub fn handle(&self) -> Result<Handle<&Machine>, OpenError> {
         Handle::new(self)
     }
 
-    /// Takes a block of dimension `k` the quick way, by hints about full words. The error is
+    /// Takes a block of dimension `k` the quick way, by hints about full words.
+    ///
+    /// # Errors
+    ///
     /// `BadDimension` or `NotNow`.
     pub fn take(&self, k: u32) -> Result<Block<&Machine>, TakeError> {
         Block::take(self, k)
     }
 
     /// Takes a block of dimension `k`, and looks at each word before it refuses. If no other call
-    /// ran meanwhile, no block of the dimension is free. The error is the first of these that
-    /// applies: `BadDimension`, `NoRoom`, `NotNow`.
+    /// ran meanwhile, no block of the dimension is free.
+    ///
+    /// # Errors
+    ///
+    /// The first of these that applies: `BadDimension`, `NoRoom`, `NotNow`.
     pub fn take_exact(&self, k: u32) -> Result<Block<&Machine>, TakeError> {
         Block::take_exact(self, k)
     }
 
-    /// Takes this block. The error is the first of these that applies: `BadDimension`, `BadBase`,
-    /// `Taken`, `NotNow`.
+    /// Takes this block.
+    ///
+    /// # Errors
+    ///
+    /// The first of these that applies: `BadDimension`, `BadBase`, `Taken`, `NotNow`.
     pub fn take_at(&self, region: Region) -> Result<Block<&Machine>, TakeError> {
         Block::take_at(self, region)
     }
 
-    /// Takes a block of dimension `k`, and sleeps until it can. The error is the first of these
-    /// that applies: `Stopped`, `BadDimension`.
+    /// Takes a block of dimension `k`, and sleeps until it can.
     ///
     /// A thread that waits for a large block may wait as long as others take small ones.
+    ///
+    /// # Errors
+    ///
+    /// The first of these that applies: `Stopped`, `BadDimension`.
     ///
     /// ```
     /// let machine = cubejobs::regions::Machine::new(2)?;
@@ -222,10 +239,13 @@ impl Machine {
     }
 
     /// Takes a block of dimension `k`, and sleeps until it can, but no longer than `timeout`. If
-    /// that is 0 it never sleeps. Any duration will do. The error is the first of these that
-    /// applies: `Stopped`, `BadDimension`, `TimedOut`.
+    /// that is 0 it never sleeps. Any duration will do.
     ///
     /// Before `TimedOut` it looks at each word once more, in turn with other threads that wait.
+    ///
+    /// # Errors
+    ///
+    /// The first of these that applies: `Stopped`, `BadDimension`, `TimedOut`.
     ///
     /// ```
     /// use cubejobs::regions::{Machine, TakeError};
@@ -275,8 +295,12 @@ impl Machine {
     }
 
     /// Frees the memory of the machine. A drop does so too, but it cannot say that a block is held.
-    /// Then the memory is never freed. A [`Handle`] that was forgotten keeps the memory
-    /// too, which is no error.
+    /// Then the memory is never freed. A [`Handle`] that was forgotten keeps the memory too, which
+    /// is no error.
+    ///
+    /// # Errors
+    ///
+    /// [`StillHeld`], with the machine, if a block is held that has no guard.
     #[allow(clippy::result_large_err)] // it is called once
     pub fn close(mut self) -> Result<(), StillHeld> {
         if self.handles.free() {
@@ -287,6 +311,7 @@ impl Machine {
     }
 
     /// Makes an event of a call that has ended: a waiter may succeed now.
+    #[allow(clippy::unused_self)] // without the feature `std` no thread sleeps here
     pub(crate) fn raise(&self) {
         #[cfg(feature = "std")]
         self.event.raise();
@@ -310,6 +335,10 @@ impl Occupancy {
 
 impl<M: Borrow<Machine>> Block<M> {
     /// Takes a block as [`Machine::take`] does, of a machine by reference or by `Arc`.
+    ///
+    /// # Errors
+    ///
+    /// Those of [`Machine::take`], in the same order.
     pub fn take(machine: M, k: u32) -> Result<Self, TakeError> {
         let handles = &machine.borrow().handles;
         let mut handle = BlockHandle::EMPTY;
@@ -318,6 +347,10 @@ impl<M: Borrow<Machine>> Block<M> {
     }
 
     /// Takes a block as [`Machine::take_exact`] does, of a machine by reference or by `Arc`.
+    ///
+    /// # Errors
+    ///
+    /// Those of [`Machine::take_exact`], in the same order.
     pub fn take_exact(machine: M, k: u32) -> Result<Self, TakeError> {
         let handles = &machine.borrow().handles;
         let mut handle = BlockHandle::EMPTY;
@@ -326,6 +359,10 @@ impl<M: Borrow<Machine>> Block<M> {
     }
 
     /// Takes a block as [`Machine::take_at`] does, of a machine by reference or by `Arc`.
+    ///
+    /// # Errors
+    ///
+    /// Those of [`Machine::take_at`], in the same order.
     pub fn take_at(machine: M, region: Region) -> Result<Self, TakeError> {
         let handles = &machine.borrow().handles;
         let mut handle = BlockHandle::EMPTY;
@@ -334,12 +371,20 @@ impl<M: Borrow<Machine>> Block<M> {
     }
 
     /// Takes a block as [`Machine::take_or_wait`] does, of a machine by reference or by `Arc`.
+    ///
+    /// # Errors
+    ///
+    /// Those of [`Machine::take_or_wait`], in the same order.
     #[cfg(feature = "std")]
     pub fn take_or_wait(machine: M, k: u32) -> Result<Self, TakeError> {
         Self::take_until(machine, k, None)
     }
 
     /// Takes a block as [`Machine::take_timeout`] does, of a machine by reference or by `Arc`.
+    ///
+    /// # Errors
+    ///
+    /// Those of [`Machine::take_timeout`], in the same order.
     #[cfg(feature = "std")]
     pub fn take_timeout(machine: M, k: u32, timeout: Duration) -> Result<Self, TakeError> {
         Self::take_until(machine, k, waiting::deadline_of(timeout))
@@ -382,10 +427,13 @@ impl<M: Borrow<Machine>> Block<M> {
     /// or by an `Arc`.
     ///
     /// # Safety
+    ///
     /// [`Block::into_raw`] has returned this region for a block of this machine. No guard was made
     /// of it since. A part of a region is no such region, and neither are two halves together.
     ///
-    /// A debug build panics if the machine has no such block.
+    /// # Panics
+    ///
+    /// Panics in a debug build if the machine has no such block.
     pub unsafe fn from_raw(machine: M, region: Region) -> Self {
         let Machine { handles, dim, .. } = machine.borrow();
         debug_assert!(region.dim <= *dim && region.range().end <= 1 << dim, "{region} is no block");
@@ -393,8 +441,11 @@ impl<M: Borrow<Machine>> Block<M> {
         Block { machine, handle, region }
     }
 
-    /// Splits the block into its lower and its upper half. Returns the block itself if it has one
-    /// processor.
+    /// Splits the block into its lower and its upper half.
+    ///
+    /// # Errors
+    ///
+    /// Returns the block itself if it has one processor.
     pub fn split(self) -> Result<(Self, Self), Self>
     where
         M: Clone,
@@ -402,7 +453,11 @@ impl<M: Borrow<Machine>> Block<M> {
         self.split_by(None)
     }
 
-    /// Joins the lower and the upper half of a block. Returns the two if they are not that.
+    /// Joins the lower and the upper half of a block.
+    ///
+    /// # Errors
+    ///
+    /// Returns the two if they are not that.
     pub fn join(self, upper: Self) -> Result<Self, (Self, Self)> {
         self.join_by(upper, None)
     }

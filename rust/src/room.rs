@@ -148,6 +148,7 @@ impl<K: Kind, P: Payload> Room<K, P> {
     }
 
     /// Wakes the thread of the worker with this number, if it is one.
+    #[allow(clippy::unused_self)] // without the feature `std` no thread sleeps here
     pub fn unpark(&self, worker: u32) -> Option<u32> {
         if worker == ffi::NO_WORKER {
             return None;

@@ -97,7 +97,9 @@ impl Collective {
     /// Makes a collective of a shape on `2^dim` ranks. An all-reduce and a scan ignore the root,
     /// which must be a rank all the same.
     ///
-    /// The error is the first of these that applies: `BadDimension`, `BadRoot`.
+    /// # Errors
+    ///
+    /// The first of these that applies: `BadDimension`, `BadRoot`.
     pub fn new(shape: Shape, dim: u32, root: u64) -> Result<Self, CollectiveError> {
         match rounds_ffi::message(shape as u32, dim, root, 0).code {
             rounds_ffi::BAD_DIMENSION => Err(CollectiveError::BadDimension),
@@ -107,16 +109,19 @@ impl Collective {
     }
 
     /// Returns the number of rounds, which is the dimension.
+    #[must_use]
     pub fn rounds(&self) -> u32 {
         rounds_ffi::count(self.shape as u32, self.dim).rounds
     }
 
     /// Returns the number of messages of all rounds.
+    #[must_use]
     pub fn message_count(&self) -> u64 {
         rounds_ffi::count(self.shape as u32, self.dim).messages
     }
 
     /// Returns message number `i`, from 0 on, if there are more than `i`.
+    #[must_use]
     pub fn message(&self, i: u64) -> Option<Message> {
         let answer = rounds_ffi::message(self.shape as u32, self.dim, self.root, i);
         let message = Message { round: answer.round, from: answer.from, to: answer.to };
@@ -124,6 +129,7 @@ impl Collective {
     }
 
     /// Returns what a rank does in a round, if there are such a rank and such a round.
+    #[must_use]
     pub fn step(&self, rank: u64, round: u32) -> Option<Step> {
         let answer = rounds_ffi::step(self.shape as u32, self.dim, self.root, rank, round);
         let partner = |number| (number != rounds_ffi::NO_RANK).then_some(number);
@@ -132,11 +138,13 @@ impl Collective {
     }
 
     /// Returns all messages, round after round.
+    #[must_use]
     pub fn messages(&self) -> Messages {
         Messages { of: *self, numbers: 0..self.message_count() }
     }
 
     /// Returns the steps of a rank, one for each round. A number that is no rank has none.
+    #[must_use]
     pub fn steps(&self, rank: u64) -> Steps {
         let rounds = if rank < 1 << self.dim { self.rounds() } else { 0 };
         Steps { of: *self, rank, rounds: 0..rounds }

@@ -29,8 +29,11 @@ pub enum SharedError {
 }
 
 impl<P: Payload> Lane<P> {
-    /// Makes the lane one that several producers share. Returns the lane as it was if memory runs
-    /// out.
+    /// Makes the lane one that several producers share.
+    ///
+    /// # Errors
+    ///
+    /// Returns the lane as it was if memory runs out.
     ///
     /// ```
     /// use cubejobs::lanes::{Lanes, SharedError, Sizes};
@@ -57,8 +60,11 @@ impl<P: Payload> Lane<P> {
 }
 
 impl<P: Payload> SharedLane<P> {
-    /// Returns a handle of the same lane for another producer. The error is `OutOfMemory`. See
-    /// [`Lane::into_shared`].
+    /// Returns a handle of the same lane for another producer. See [`Lane::into_shared`].
+    ///
+    /// # Errors
+    ///
+    /// `OutOfMemory`.
     pub fn share(&mut self) -> Result<Self, DealError> {
         let mut handle = Handle::SHUT;
         match cubejobs_lanes_share_again(&mut self.handle, &mut handle) {
@@ -67,8 +73,12 @@ impl<P: Payload> SharedLane<P> {
         }
     }
 
-    /// Submits a job as [`Lane::submit`] does. The error is also `Busy`, if another producer is in
-    /// the lane. Then submit again, as in [`Lane::into_shared`].
+    /// Submits a job as [`Lane::submit`] does.
+    ///
+    /// # Errors
+    ///
+    /// `Busy` if another producer is in the lane: then submit again, as in [`Lane::into_shared`].
+    /// Else it is that of the lane, as `SharedError::Lane`.
     pub fn submit(&mut self, payload: P, dim: u32) -> Result<Accepted, Refused<SharedError, P>> {
         let word = payload.into_word();
         let submitted = cubejobs_lanes_submit_shared(&mut self.handle, word, dim);

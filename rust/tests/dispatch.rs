@@ -103,8 +103,8 @@ fn refusals_say_why() {
 #[test]
 fn each_error_has_a_sentence() {
     use NextError::*;
-    let mut texts: Vec<String> = [NoRegion, OlderJob, Empty, Ended, Asleep].map(|it| it.to_string()).into();
     use SubmitError::*;
+    let mut texts: Vec<String> = [NoRegion, OlderJob, Empty, Ended, Asleep].map(|it| it.to_string()).into();
     texts.extend([BadDimension, Full, Closed, Spent].map(|it| it.to_string()));
     texts.extend([OpenError::BadSizes, OpenError::OutOfMemory].map(|it| it.to_string()));
     for (number, text) in texts.iter().enumerate() {

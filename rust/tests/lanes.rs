@@ -140,7 +140,7 @@ fn one_thread_is_like_lists() {
     let mut workers = [(); 2].map(|()| lanes.worker().unwrap());
     let (mut state, mut accepted) = (7_u64, 0);
     for _ in 0..20_000 {
-        state = state.wrapping_mul(6364136223846793005).wrapping_add(1442695040888963407);
+        state = state.wrapping_mul(6_364_136_223_846_793_005).wrapping_add(1_442_695_040_888_963_407);
         let (number, worker) = ((state >> 33) as usize % 3, &mut workers[(state >> 40) as usize % 2]);
         if state >> 50 & 1 == 0 {
             let got = lane[number].submit(state, number as u32);

@@ -124,9 +124,9 @@ fn refuse_each<T, E: Copy + PartialEq + Debug>(
     let before = LIVE.load(SeqCst);
     for allowed in 0.. {
         match with_requests(allowed, &mut make) {
-            Ok(made) => return (made, allowed),
+            Ok(result) => return (result, allowed),
             Err(error) => {
-                assert_eq!((error, LIVE.load(SeqCst)), (refusal, before), "after {allowed} requests")
+                assert_eq!((error, LIVE.load(SeqCst)), (refusal, before), "after {allowed} requests");
             }
         }
     }
@@ -228,7 +228,7 @@ fn lanes_leave_no_memory_behind() {
                 counting(|| {
                     drop(worker.take(0).unwrap());
                     drop(worker);
-                })
+                });
             });
         });
         assert_eq!(LIVE.load(SeqCst), 0, "after round {round}");

@@ -210,7 +210,7 @@ fn work(
     for _ in 0..TURNS {
         let x = next(&mut state);
         let k = (x % u64::from(DIM + 1)) as u32;
-        if x >> 20 & 3 == 0 {
+        if (x >> 20) % 4 == 0 {
             let Ok(block) = Held::take_exact(all.clone(), k % 8) else { continue };
             table.write(block.region());
             written += block.region().len();

@@ -174,6 +174,7 @@ impl Group<'_> {
     /// assert_eq!(got, ['a', 'b']);
     /// # Ok::<(), std::io::Error>(())
     /// ```
+    #[allow(clippy::must_use_candidate)] // a member may only wait for it
     pub fn scatter<T: Send + 'static>(&self, root: usize, values: Option<Vec<T>>) -> T {
         let from_root = self.relative_to(root);
         let mut values = values.filter(|_| from_root == 0).unwrap_or_default();

@@ -100,6 +100,7 @@ impl<'a> Group<'a> {
     /// assert_eq!(pool.run(1, |group| group.rank()), [0, 1]);
     /// # Ok::<(), std::io::Error>(())
     /// ```
+    #[must_use]
     pub fn rank(&self) -> usize {
         self.me - self.base
     }
@@ -111,6 +112,7 @@ impl<'a> Group<'a> {
     /// assert_eq!(pool.run(1, |group| group.size()), [2, 2]);
     /// # Ok::<(), std::io::Error>(())
     /// ```
+    #[must_use]
     pub fn size(&self) -> usize {
         1 << self.dim
     }
@@ -122,6 +124,7 @@ impl<'a> Group<'a> {
     /// assert_eq!(pool.run(2, |group| group.half().dim()), [1; 4]);
     /// # Ok::<(), std::io::Error>(())
     /// ```
+    #[must_use]
     pub fn dim(&self) -> u32 {
         self.dim
     }
@@ -135,6 +138,7 @@ impl<'a> Group<'a> {
     /// assert_eq!(workers, [0, 1, 2, 3]);
     /// # Ok::<(), std::io::Error>(())
     /// ```
+    #[must_use]
     pub fn base(&self) -> usize {
         self.base
     }
@@ -150,6 +154,7 @@ impl<'a> Group<'a> {
     /// assert!(ticket.unwrap().join().is_err());
     /// # Ok::<(), std::io::Error>(())
     /// ```
+    #[must_use]
     pub fn is_poisoned(&self) -> bool {
         self.gang.has_failed.load(SeqCst)
     }
@@ -167,6 +172,7 @@ impl<'a> Group<'a> {
     /// assert_eq!(sums, [1, 1, 5, 5]);
     /// # Ok::<(), std::io::Error>(())
     /// ```
+    #[must_use]
     pub fn half(&self) -> Group<'_> {
         assert!(self.dim > 0, "a group of one has no halves");
         let dim = self.dim - 1;
@@ -246,6 +252,7 @@ impl<'a> Group<'a> {
     /// assert_eq!(ranks, [3, 0, 1, 2]);
     /// # Ok::<(), std::io::Error>(())
     /// ```
+    #[allow(clippy::must_use_candidate)] // a member may only wait for it
     pub fn recv<T: Send + 'static>(&self, from: usize) -> T {
         self.get(self.other(from))
     }

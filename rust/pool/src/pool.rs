@@ -457,6 +457,7 @@ impl Pool {
     /// assert_eq!(pool.workers(), 2);
     /// # Ok::<(), std::io::Error>(())
     /// ```
+    #[must_use]
     pub fn workers(&self) -> usize {
         self.shared.size()
     }
@@ -468,6 +469,7 @@ impl Pool {
     /// assert_eq!(pool.dim(), 1);
     /// # Ok::<(), std::io::Error>(())
     /// ```
+    #[must_use]
     pub fn dim(&self) -> u32 {
         self.shared.dim
     }
@@ -490,6 +492,7 @@ impl Pool {
     /// let number = 5;
     /// pool.spawn(|| number + 1);
     /// ```
+    #[allow(clippy::missing_panics_doc)] // a closed pool has no owner that could call this
     pub fn spawn<F, T>(&self, call: F) -> Ticket<T>
     where
         F: FnOnce() -> T + Send + 'static,
@@ -497,7 +500,6 @@ impl Pool {
     {
         let packet = Packet::new(1, None);
         let (job, awaited) = Job::awaited(One { call, promise: Promise::new(packet.clone()) });
-        // A pool that is closed has no owner that could call this.
         assert!(self.shared.submit_one(job).is_ok(), "{}", Reason::Closed);
         Ticket { packet, pool: self.shared.number, job: Some(awaited) }
     }
@@ -537,6 +539,7 @@ impl Pool {
     /// assert_eq!(receiver.recv(), Ok(7));
     /// # Ok::<(), std::io::Error>(())
     /// ```
+    #[allow(clippy::missing_panics_doc)] // as for `spawn`
     pub fn detach<F: FnOnce() + Send + 'static>(&self, call: F) {
         assert!(self.shared.submit_one(Job::new(Detached(call))).is_ok(), "{}", Reason::Closed);
     }

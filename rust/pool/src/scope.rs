@@ -384,6 +384,10 @@ impl<'scope> Scope<'scope, '_> {
     /// Runs `call` on each worker of an aligned group of `2^dim`, as
     /// [`Pool::submit`](crate::Pool::submit) does. Returns the way to its results.
     ///
+    /// # Errors
+    ///
+    /// The reason is that of [`Pool::submit`](crate::Pool::submit). The closure comes back.
+    ///
     /// ```
     /// # let pool = cubejobs_pool::Pool::builder().workers_log2(2).build()?;
     /// let words = ["a", "bc"];
@@ -463,12 +467,17 @@ impl<T> ScopeTicket<'_, T> {
     /// });
     /// # Ok::<(), std::io::Error>(())
     /// ```
+    #[must_use]
     pub fn is_finished(&self) -> bool {
         self.ticket.is_finished()
     }
 
     /// Sleeps until the job has ended, as [`Ticket::join`] does. A panic that this returns is not
     /// that of the scope.
+    ///
+    /// # Errors
+    ///
+    /// Those of [`Ticket::join`].
     ///
     /// ```
     /// # let pool = cubejobs_pool::Pool::builder().workers_log2(2).build()?;
@@ -486,6 +495,10 @@ impl<T> ScopeTicket<'_, T> {
 
     /// Sleeps until the job has ended, as [`Ticket::join_all`] does. A panic that this returns is
     /// not that of the scope.
+    ///
+    /// # Errors
+    ///
+    /// Those of [`Ticket::join`].
     ///
     /// ```
     /// # let pool = cubejobs_pool::Pool::builder().workers_log2(2).build()?;

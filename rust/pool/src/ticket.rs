@@ -214,15 +214,19 @@ impl<T> Ticket<T> {
     /// assert_eq!(ticket.join().unwrap(), 7);
     /// # Ok::<(), std::io::Error>(())
     /// ```
+    #[must_use]
     pub fn is_finished(&self) -> bool {
         self.packet.is_done()
     }
 
-    /// Sleeps until the job has ended. Returns the result of the member of rank 0. The error is the
-    /// payload of the first panic, or [`Cancelled`](crate::Cancelled).
+    /// Sleeps until the job has ended. Returns the result of the member of rank 0.
     ///
     /// A job that waits runs this one itself if it has not begun, and no other one. Otherwise
     /// another thread gets its worker meanwhile.
+    ///
+    /// # Errors
+    ///
+    /// The payload of the first panic, or [`Cancelled`](crate::Cancelled).
     ///
     /// # Panics
     ///
@@ -245,6 +249,10 @@ impl<T> Ticket<T> {
 
     /// Sleeps until the job has ended, as [`Ticket::join`] does. Returns the results of all members
     /// in the order of their ranks.
+    ///
+    /// # Errors
+    ///
+    /// Those of [`Ticket::join`].
     ///
     /// ```
     /// # let pool = cubejobs_pool::Pool::builder().workers_log2(2).build()?;

@@ -576,7 +576,7 @@ fn scopes_get_their_panics() {
                                     }
                                 });
                             }
-                        })
+                        });
                     }));
                     assert_eq!(ran.load(SeqCst), 20);
                     let payload = result.err().map(|it| *it.downcast::<(u32, i32)>().unwrap());

@@ -119,14 +119,14 @@ fn a_member_that_has_left_frees_those_that_wait_for_it() {
     assert_eq!(failure(&pool, 1, |group| (group.rank() == 1).then(|| group.recv::<u8>(0))), gone);
     assert_eq!(
         failure(&pool, 2, |group| if group.rank() != 3 {
-            group.barrier()
+            group.barrier();
         }),
         gone
     );
     // The third value has no room, and nobody takes the first.
     assert_eq!(
         failure(&pool, 1, |group| if group.rank() == 0 {
-            (0..3).for_each(|it| group.send(1, it))
+            (0..3).for_each(|it| group.send(1, it));
         }),
         gone
     );
@@ -257,7 +257,7 @@ fn calls_that_do_not_fit_panic_at_all_members() {
     // One half is at a barrier of the whole group, the other at one of its own.
     let halves = |group: &Group<'_>| {
         if group.rank() < 2 {
-            group.barrier()
+            group.barrier();
         } else {
             group.recv::<u8>(group.rank() ^ 1);
         }
@@ -600,7 +600,7 @@ fn a_panic_of_a_scope_comes_when_all_its_jobs_have_ended() {
             pool.scope(|scope| match gang {
                 true => drop(scope.submit(1, |_| planned())),
                 false => drop(scope.spawn(|| planned())),
-            })
+            });
         }));
         assert_eq!(result.unwrap_err().downcast_ref(), Some(&Planned));
     }

@@ -230,7 +230,7 @@ fn a_full_lane_does_not_run_a_job_in_place() {
         let spawn = move || {
             CELL.with_borrow_mut(|cell| {
                 *cell = 7;
-                [(); 3].map(|_| inner.spawn(|| CELL.with_borrow_mut(|cell| *cell += 1)))
+                [(); 3].map(|()| inner.spawn(|| CELL.with_borrow_mut(|cell| *cell += 1)))
             })
         };
         let tickets = match is_in_gang {
@@ -255,7 +255,7 @@ fn a_lane_makes_room_without_a_run() {
         };
         let first = count();
         inner.spawn(|| ()).join().unwrap();
-        let others = [(); 3].map(|_| count());
+        let others = [(); 3].map(|()| count());
         drop(held);
         first.join().unwrap();
         others.into_iter().for_each(|ticket| ticket.join().unwrap());
@@ -684,7 +684,7 @@ fn a_thread_without_a_worker_takes_one_that_is_kept() {
         end_of_second.open(1);
         second.join().unwrap();
         let both = Arc::new(Barrier::new(2));
-        let tickets = [(); 2].map(|_| {
+        let tickets = [(); 2].map(|()| {
             let both = both.clone();
             pool.spawn(move || both.wait().is_leader())
         });
@@ -758,7 +758,7 @@ fn a_deep_wait_has_a_spare() {
     for _ in 0..5 {
         let pool = shared(workers(2).max_threads(2).stack_size(1 << 20));
         let other = pool_with(2, 256);
-        let waiters = [(); 2].map(|_| spawn_waiter(&pool, &other));
+        let waiters = [(); 2].map(|()| spawn_waiter(&pool, &other));
         let (inner, lock, held) = (pool.clone(), Arc::new(Mutex::new(())), Gate::default());
         let (ours, is_held) = (lock.clone(), held.clone());
         let deep = pool.spawn(move || {
@@ -838,7 +838,7 @@ fn give_away(pool: &Pool, rounds: usize) -> usize {
 fn waits_that_give_their_worker_away_leave_few_threads() {
     let _limited = limited(200);
     let pool = pool_with(4, 256);
-    let all = [(); 2].map(|_| {
+    let all = [(); 2].map(|()| {
         let inner = pool.clone();
         pool.spawn(move || give_away(&inner, 50_000))
     });
@@ -864,8 +864,8 @@ fn nest<const BYTES: usize>(pool: Arc<Pool>, depth: usize) -> usize {
 
 #[test]
 fn nested_joins_do_not_overflow_a_stack() {
-    let _limited = limited(200);
     type Nest = fn(Arc<Pool>, usize) -> usize;
+    let _limited = limited(200);
     let cases: [(Nest, usize, usize); 4] = [
         (nest::<16>, 5_000, 2 << 20),
         (nest::<{ 32 << 10 }>, 130, 2 << 20),
@@ -1254,11 +1254,11 @@ fn a_job_that_comes_again_keeps_no_other_out() {
             .flat_map(|_| {
                 let start = Instant::now();
                 pool.spawn(|| ()).join().unwrap();
-                let by_pool = start.elapsed();
+                let by_pool = Instant::now();
                 client.spawn(|| ()).unwrap().join().unwrap();
-                let by_client = start.elapsed() - by_pool;
+                let by_client = Instant::now();
                 pool.run(0, |_| ());
-                [by_pool, by_client, start.elapsed() - by_pool - by_client]
+                [by_pool.duration_since(start), by_client.duration_since(by_pool), by_client.elapsed()]
             })
             .collect();
         stop.store(true, SeqCst);
@@ -1268,6 +1268,7 @@ fn a_job_that_comes_again_keeps_no_other_out() {
 
 /// Fills three quarters of a stack of 16 MiB.
 #[inline(never)]
+#[allow(clippy::large_stack_arrays)]
 fn fill_stack() -> u8 {
     let mut bytes = [1_u8; 12 << 20];
     black_box(&mut bytes)[5 << 20]

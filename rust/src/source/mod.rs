@@ -5,7 +5,8 @@
 //! what their clauses ask.
 #![forbid(unsafe_code)]
 // What clauses alone read is not used here. The layout is that of the proved sources.
-#![allow(dead_code, unused_imports, unused_mut, unused_variables, private_interfaces, clippy::all)]
+#![allow(dead_code, unused_imports, unused_mut, unused_variables, private_interfaces)]
+#![allow(clippy::all, clippy::pedantic)]
 #![warn(clippy::incompatible_msrv)]
 
 #[cfg(not(target_has_atomic = "64"))]
