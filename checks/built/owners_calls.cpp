@@ -145,6 +145,39 @@ static void moved() {
     expect_error(CUBEJOBS_DISPATCH_NOT_OPEN, [&] { cubejobs::shared_lane none(std::move(lane)); }, "a shared lane");
 }
 
+/* Waits 10,000 times by 16 threads, each until a random deadline of at most 2 ms, one that has passed, or none. */
+static void many_deadlines() {
+    using clock = std::chrono::steady_clock;
+    machine mine(3);
+    std::vector<std::thread> threads;
+    std::vector<std::atomic<unsigned>> owners(8);
+    std::atomic<unsigned> given{0}, late{0};
+    for (unsigned number = 0; number < 16; number++) {
+        threads.emplace_back([&owners, &given, &late](machine own, std::uint64_t seed) {
+            for (unsigned turn = 0; turn < 625; turn++) {
+                seed = seed * 6364136223846793005u + 1442695040888963407u;
+                const std::uint64_t x = seed >> 20;
+                const clock::time_point end = clock::now() + std::chrono::nanoseconds(x % 4 ? x >> 8 & 0x1fffff : 0);
+                const std::uint32_t k = static_cast<std::uint32_t>(x >> 30) % 4;
+                block one = x % 16 == 1 ? own.take_or_wait(k) : own.take_until(k, end);
+                if (one.code() == CUBEJOBS_REGIONS_TIMED_OUT) {
+                    expect(clock::now() >= end && x % 16 != 1 && !one, "a wait ends before its deadline");
+                    late++;
+                    continue;
+                }
+                expect(one.code() == CUBEJOBS_REGIONS_DONE, "a wait is refused");
+                for (std::uint64_t p = one.base(); p < one.base() + (1u << k); p++)
+                    expect(owners[p]++ == 0, "two owners");
+                if (x >> 34 & 1) std::this_thread::sleep_for(std::chrono::microseconds(50));
+                for (std::uint64_t p = one.base(); p < one.base() + (1u << k); p++) owners[p]--;
+                given++;
+            }
+        }, mine.share(), number + 1);
+    }
+    for (std::thread &thread : threads) thread.join();
+    expect(given + late == 10000 && given && late && mine.occupancy().held == 0, "waits with deadlines");
+}
+
 /* Waits until a deadline, without one, and until a stop. The threads share the machine. */
 static void waits() {
     using clock = std::chrono::steady_clock;
@@ -341,6 +374,7 @@ int main() {
     exact();
     moved();
     waits();
+    many_deadlines();
     lanes_of_jobs();
     jobs_with_blocks();
     sleepers();
