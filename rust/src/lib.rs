@@ -68,6 +68,9 @@ mod parking;
 mod payload;
 #[cfg(any(feature = "dispatch", feature = "regions"))]
 mod place;
+#[cfg(all(doctest, feature = "regions"))]
+#[doc = include_str!("../README.md")]
+mod readme {}
 mod region;
 #[cfg(feature = "regions")]
 pub mod regions;
