@@ -42,7 +42,7 @@ def build_wheel(wheel_directory: str, config_settings: Optional[Dict[str, Any]] 
                 metadata_directory: Optional[str] = None) -> str:
     """Writes the wheel for this platform into a folder, and returns its name."""
     name, tag = f"cubejobs-{_version()}", f"py3-none-{re.sub('[-.]', '_', sysconfig.get_platform())}"
-    files = {**_module(), **{f"cubejobs/{it}": data for it, data in _shared(_platform_folder()).items()}}
+    files = {**_module(), **{f"cubejobs/lib/{it}": data for it, data in _shared(_platform_folder()).items()}}
     files[f"{name}.dist-info/METADATA"] = _metadata()
     files[f"{name}.dist-info/WHEEL"] = WHEEL.format(tag=tag).encode()
     record = f"{name}.dist-info/RECORD"

@@ -13,23 +13,24 @@ least base. Both hold any number of blocks, on machines of dimension 0 to 20.
 4 4
 0
 
-Both have the methods of `Machine`, so one function serves both:
+Both have the methods of `Machine`, so one function serves both. Here it counts the blocks for which there is room:
 
->>> def run(machine: Machine, dims: List[int]) -> int:
-...     with machine:
-...         return sum(len(machine.take(dim).processors) for dim in dims)
->>> try:
-...     run(FirstFit(3), [0, 1])
-... except StillHeld as reason:
-...     print(reason)
-blocks that are held: 2
+>>> def fill(machine: Machine, dim: int) -> int:
+...     blocks = []
+...     try:
+...         while True:
+...             blocks.append(machine.take(dim))
+...     except NoRoom:
+...         return len(blocks)
+>>> fill(Regions(4), 2), fill(FirstFit(4), 1)
+(4, 8)
 
 Blocks. Leave a `with`, or call `release`, to give a block back. A block that is forgotten stays held: `held` lists all
 blocks, and `release` also takes two numbers, as in `machine.release(Region(4, 2))`.
 
 Ends. Leaving the `with` of a machine closes it, and raises StillHeld if a block is held. If the body ends by an
-exception, that exception comes out. A machine that you drop gives its memory back, also if blocks of it were forgotten.
-As long as you have a block, its machine stays.
+exception, that exception comes out. After a close, a take raises ValueError. A machine that you drop gives its memory
+back, also if blocks of it were forgotten. As long as you have a block, its machine stays.
 
 Threads. They may share a machine and its blocks: a lock lets them in one after the other.
 
@@ -39,7 +40,7 @@ and send `block.region` to its workers: that is two plain numbers. `examples/pro
 
 This module is for experiments and notebooks: its calls are far slower than those of C. What is proved is the library,
 and not this module. It loads the shared objects from the first of these places that has them: the folder that
-CUBEJOBS_LIB names, the folder of this package, `release/` of a clone, `lib` of the installation, and the places where
+CUBEJOBS_LIB names, `lib` of this package, `release/` of a clone, `lib` of the installation, and the places where
 the system looks.
 """
 import abc

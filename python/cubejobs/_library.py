@@ -70,7 +70,7 @@ def _places(name: str, version: str) -> List[str]:
         return [os.path.join(named, name)]
     here = os.path.dirname(os.path.abspath(__file__))
     versioned = f"{name}.{'.'.join(version.split('.')[:2])}"
-    folders = [here, os.path.join(here, "..", "..", "release", f"linux-{platform.machine()}"),
+    folders = [os.path.join(here, "lib"), os.path.join(here, "..", "..", "release", f"linux-{platform.machine()}"),
                os.path.join(here, "..", "..", "..", "..", "lib")]
     found = [os.path.join(folder, file) for folder in folders for file in (versioned, name)]
     return [file for file in found if os.path.exists(file)] + [versioned]

@@ -25,7 +25,7 @@ DOCTEST = "import cubejobs, doctest; failed, tried = doctest.testmod(cubejobs); 
 EXAMPLES = ("processes.py",)
 SECONDS = 900
 # How many random programs run of each kind, and how many calls each makes: in the gate, and at length.
-GATE, LONG = (2, 50_000), (10, 1_000_000)
+GATE, LONG = (2, 50_000), (10, 300_000)
 
 
 def programs(file):
