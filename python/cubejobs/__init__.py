@@ -106,26 +106,16 @@ class Occupancy(NamedTuple):
 
 
 class _Process:
-    """This process, and the lock that gives each machine its number. A forked child is another process."""
+    """This process, by a mark that the child of a fork replaces."""
 
-    def __init__(self) -> None:
-        self.renew()
-        self.machines = 0
+    mark = object()
 
-    def renew(self) -> None:
-        """Makes this process another one. In the child of a fork, the thread that had the lock may be gone."""
-        self.mark = object()
-        self.lock = threading.Lock()
-
-    def next_machine(self) -> int:
-        """Returns a number that no other machine of this process has."""
-        with self.lock:
-            self.machines += 1
-            return self.machines
+    @classmethod
+    def become_another(cls) -> None:
+        cls.mark = object()
 
 
-_process = _Process()
-os.register_at_fork(after_in_child=_process.renew)
+os.register_at_fork(after_in_child=_Process.become_another)
 
 
 class _Hold:
@@ -241,7 +231,7 @@ class Machine(abc.ABC):
         self.dim = _natural(dim, MAX_DIM, "the dimension of a machine")
         # A thread that a signal handler interrupts, or the garbage collector, may come here again.
         self._lock = threading.RLock()
-        self._mark, self._is_open = _process.mark, True
+        self._mark, self._is_open = _Process.mark, True
         # All held blocks, by their first processors.
         self._holds: Dict[int, _Hold] = {}
 
@@ -315,12 +305,12 @@ class Machine(abc.ABC):
         return f"{name}, held={held})" if self._is_open else f"{name}, closed)"
 
     def _is_here(self) -> bool:
-        return self._mark is _process.mark
+        return self._mark is _Process.mark
 
     def _turn(self) -> ContextManager[Any]:
         """Returns the lock of the machine. In the child of a fork a thread that is gone may have it: raises OtherProcess
         instead."""
-        if self._mark is not _process.mark:
+        if self._mark is not _Process.mark:
             raise OtherProcess("the machine belongs to the process that this one was forked from: open another one")
         return self._lock
 
@@ -417,7 +407,8 @@ class Regions(Machine):
         super().__init__(dim)
         self._handle = Handle()
         weakref.finalize(self, _drop, self._handle, self._holds, self._mark).atexit = False
-        if _regions.open_version(self._handle, REGIONS_VERSION, self.dim, _process.next_machine()) != DONE:
+        # The library takes a number that no other machine has: the address of the handle.
+        if _regions.open_version(self._handle, REGIONS_VERSION, self.dim, ctypes.addressof(self._handle)) != DONE:
             raise MemoryError("there is no memory for the machine")
 
     def occupancy(self) -> Occupancy:
@@ -466,7 +457,7 @@ class Regions(Machine):
 def _drop(handle: Handle, holds: Dict[int, _Hold], mark: object) -> None:
     """Frees a machine that nobody has any more, with the blocks that were forgotten. If the process is a child of the
     one that opened it, the memory is a copy, in which a thread may have stopped inside a call: leaves it alone."""
-    if mark is _process.mark:
+    if mark is _Process.mark:
         for hold in holds.values():
             _regions.release(handle, hold.handle)
         _regions.free(handle)

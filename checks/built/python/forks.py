@@ -5,7 +5,6 @@ import signal
 import sys
 import threading
 
-import cubejobs
 from checks.lib.rows import must
 from cubejobs import FirstFit, NoRoom, OtherProcess, Region, Regions
 
@@ -135,7 +134,7 @@ def locks_of_a_thread_that_is_gone_stop_nothing():
     pairs, is_held, may_go = _opened(), threading.Event(), threading.Event()
 
     def hold():
-        with pairs[0][0]._lock, pairs[1][0]._lock, cubejobs._process.lock:
+        with pairs[0][0]._lock, pairs[1][0]._lock:
             is_held.set()
             may_go.wait()
 
