@@ -62,7 +62,7 @@ VERSIONS = (
 # The files of each part, as patterns of their paths below the prefix: each file fits one, and each pattern has a file.
 DOC = r"share/doc/cubejobs"
 PARTS = {
-    "c": (r"include/cubejobs\w*\.h(pp)?", r"lib/libcubejobs_(c|regions|dispatch|rounds)\.a",
+    "c": (r"include/cubejobs\w*\.(c|h|hpp)", r"lib/libcubejobs_(c|regions|dispatch|rounds)\.a",
           r"lib/libcubejobs_(c|regions|dispatch|rounds)\.so(\.\d+\.\d+(\.\d+)?)?", r"lib/pkgconfig/cubejobs\w*\.pc",
           r"lib/cmake/cubejobs/cubejobs-config(-version)?\.cmake", r"share/man/man3/cubejobs_\w+\.3", rf"{DOC}/docs/C\.md",
           rf"{DOC}/examples/\w+\.c(pp)?", rf"{DOC}/examples/(?!processes)\w+\.out", rf"{DOC}/examples/batch\.jobs",
