@@ -4,8 +4,7 @@ use cubejobs::regions::{Block, Handle, Held, Machine, TakeError};
 use cubejobs::Region;
 use std::mem::forget;
 use std::sync::atomic::{AtomicU32, Ordering::SeqCst};
-use std::sync::mpsc::channel;
-use std::sync::Arc;
+use std::sync::{Arc, Mutex};
 use std::thread;
 use std::time::Duration;
 
@@ -110,22 +109,12 @@ fn a_close_sees_held_blocks_beside_a_forgotten_handle() {
     machine.close().unwrap();
 }
 
-/// Takes blocks, passes each second one on, and releases those of others.
-fn work<'a>(
-    mut handle: Handle<&'a Machine>,
-    owners: &[AtomicU32],
-    number: u32,
-    mut pass: impl FnMut(Block<&'a Machine>) -> Option<Block<&'a Machine>>,
-) {
-    for turn in 0..TURNS {
-        let Ok(block) = handle.take((turn + number) % DIM) else { continue };
-        for p in block.region().range() {
-            assert_eq!(owners[p as usize].swap(number, SeqCst), 0, "two owners of {p}");
-        }
-        let block = if turn % 2 == 0 { Some(block) } else { pass(block) };
-        let Some(block) = block else { continue };
-        block.region().range().for_each(|p| owners[p as usize].store(0, SeqCst));
-        handle.release(block).unwrap();
+/// Marks the processors of a block as those of a thread, or of none. They were those of none before,
+/// or of one.
+fn mark(owners: &[AtomicU32], block: &Block<&Machine>, number: u32) {
+    for p in block.region().range() {
+        let before = owners[p as usize].swap(number, SeqCst);
+        assert_ne!(before == 0, number == 0, "two owners of {p}, or none");
     }
 }
 
@@ -133,24 +122,34 @@ fn work<'a>(
 fn handles_of_many_threads_share_a_machine() {
     let machine = Machine::new(DIM).unwrap();
     let owners: Vec<_> = (0..1 << DIM).map(|_| AtomicU32::new(0)).collect();
-    let ends: Vec<_> = (0..THREADS).map(|_| channel()).collect();
-    let senders: Vec<_> = ends.iter().map(|it| it.0.clone()).collect();
+    let inboxes: Vec<_> = (0..THREADS).map(|_| Mutex::new(Vec::new())).collect();
     thread::scope(|scope| {
-        for (number, (_, inbox)) in ends.into_iter().enumerate() {
-            let (owners, next) = (&owners, senders[(number + 1) % THREADS].clone());
-            let handle = machine.handle().unwrap();
+        for number in 0..THREADS {
+            let (owners, inbox, next) = (&owners, &inboxes[number], &inboxes[(number + 1) % THREADS]);
+            let mut handle = machine.handle().unwrap();
             scope.spawn(move || {
-                work(handle, owners, number as u32 + 1, |block| {
-                    // The other thread may have ended.
-                    next.send(block).map_or_else(|it| Some(it.0), |()| inbox.try_recv().ok())
-                });
-                inbox.try_iter().for_each(|block| {
-                    block.region().range().for_each(|p| owners[p as usize].store(0, SeqCst));
-                });
+                for turn in 0..TURNS {
+                    let Ok(block) = handle.take((turn + number as u32) % DIM) else { continue };
+                    mark(owners, &block, number as u32 + 1);
+                    // Each second block is passed on, and one of another thread is released.
+                    let passed = (turn % 2 > 0).then(|| inbox.lock().unwrap().pop());
+                    let block = match passed {
+                        None => Some(block),
+                        Some(other) => {
+                            next.lock().unwrap().push(block);
+                            other
+                        }
+                    };
+                    let Some(block) = block else { continue };
+                    mark(owners, &block, 0);
+                    handle.release(block).unwrap();
+                }
             });
         }
-        drop(senders);
     });
-    assert_eq!(machine.occupancy().held, 0);
+    let left: Vec<_> = inboxes.into_iter().flat_map(|it| it.into_inner().unwrap()).collect();
+    let held: u64 = left.iter().map(|it: &Block<_>| it.region().len()).sum();
+    assert_eq!(machine.occupancy().held, held);
+    drop(left);
     machine.close().unwrap();
 }
