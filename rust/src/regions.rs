@@ -39,6 +39,10 @@
 //! [`Region`], which stays held. [`Block::from_raw`] makes a guard of it again. The example
 //! `global_alloc` is an allocator for a whole program.
 //!
+//! Such an allocator must not call itself. Some calls of a machine allocate ([`Machine`]): over the
+//! library by `malloc`, and as plain Rust by the program's own allocator. So a thread inside a call
+//! of the machine takes its memory elsewhere, as in the example.
+//!
 //! # Which calls are lock-free
 //!
 //! The library wants one call at a time with each of its handles. A [`Machine`] has 33, which all
