@@ -1,7 +1,7 @@
 """Builds the wheel and the source archive of the Python module, as pip asks for them (PEP 517). It needs Python alone.
 
-The wheel has the shared objects of this platform inside, from `release/` of the clone. A source archive has those of all
-platforms, so it builds a wheel too. The same files make the same bytes each time.
+The wheel has the shared objects of this platform inside, from `release/` of the clone. A source archive has those of
+all platforms, so it builds a wheel too. The same files make the same bytes each time.
 """
 import ast
 import base64

@@ -34,14 +34,13 @@ back, also if blocks of it were forgotten. As long as you have a block, its mach
 
 Threads. They may share a machine and its blocks: a lock lets them in one after the other.
 
-Processes. A machine belongs to one process. After a fork, each call on a machine or a block of the parent raises
-OtherProcess in the child, since its copy would give out the same processors again. So let the parent take and release,
-and send `block.region` to its workers: that is two plain numbers. `examples/processes.py` does so.
+Processes. A machine belongs to one process. In the child of a fork, each call on a machine or a block of the parent
+raises OtherProcess. A copy would give out the same processors again. So let the parent take and release, and send
+`block.region` to its workers: that is two plain numbers. `examples/processes.py` does so.
 
 This module is for experiments and notebooks: its calls are far slower than those of C. What is proved is the library,
-and not this module. It loads the shared objects from the first of these places that has them: the folder that
-CUBEJOBS_LIB names, `lib` of this package, `release/` of a clone, `lib` of the installation, and the places where
-the system looks.
+and not this module. It loads the shared objects from the folder that CUBEJOBS_LIB names. If it names none, the module
+looks into `lib` of this package, `release/` of a clone and `lib` of the installation. Last, the system looks.
 """
 import abc
 import ctypes
@@ -97,8 +96,8 @@ class Region(NamedTuple):
 
 
 class Occupancy(NamedTuple):
-    """What is held and what is free: the number of held processors, the dimension of the largest free block, if there
-    is one, and the number of free blocks of each dimension, at the dimension."""
+    """The number of held processors, and the dimension of the largest free block, or None. Then the number of free
+    blocks of each dimension, at the dimension."""
 
     held: int
     largest: Optional[int]
@@ -196,8 +195,8 @@ class Block:
         return self._machine._split(self)
 
     def join(self, upper: "Block") -> None:
-        """Joins the upper half to this lower one, which then is the whole. Raises ValueError if they are not the two
-        halves of a block, and NotHeld if one of them was given back or is of another machine."""
+        """Joins the upper half to this lower one, which then is the whole. Raises NotHeld if one of them was given back
+        or is of another machine. Raises ValueError if they are not the two halves of a block."""
         self._machine._join(self, upper)
 
     def __enter__(self) -> "Block":
@@ -268,7 +267,7 @@ class Machine(abc.ABC):
     def held(self) -> List[Region]:
         """Returns the regions of all held blocks, in their order, also of those that were forgotten."""
         with self._turn():
-            return sorted(hold.region for hold in self._holds.values() if hold.region)
+            return sorted(hold.region for hold in [*self._holds.values()] if hold.region)
 
     @abc.abstractmethod
     def occupancy(self) -> Occupancy:
@@ -295,7 +294,7 @@ class Machine(abc.ABC):
                 raise
 
     def __reduce__(self) -> NoReturn:
-        raise TypeError("a machine cannot be copied or sent to another process: its copy would give out the same blocks")
+        raise TypeError("a machine cannot be copied or sent to another process: a copy would give out the same blocks")
 
     def __repr__(self) -> str:
         name = f"{type(self).__name__}(dim={self.dim}"
@@ -308,8 +307,8 @@ class Machine(abc.ABC):
         return self._mark is _Process.mark
 
     def _turn(self) -> ContextManager[Any]:
-        """Returns the lock of the machine. In the child of a fork a thread that is gone may have it: raises OtherProcess
-        instead."""
+        """Returns the lock of the machine. Raises OtherProcess in the child of a fork, where a thread that is gone may
+        have it."""
         if self._mark is not _Process.mark:
             raise OtherProcess("the machine belongs to the process that this one was forked from: open another one")
         return self._lock
@@ -340,7 +339,7 @@ class Machine(abc.ABC):
             raise NotHeld(f"no block that is held is {region}")
         return hold, region
 
-    # The bookkeeping of a release, a split and a join comes before the call of the library: if Ctrl-C comes in between,
+    # The bookkeeping of a release, a split and a join comes before the call of the library. If Ctrl-C comes in between,
     # processors may stay held, and are never given out twice.
 
     def _split(self, block: Block) -> Block:
@@ -349,7 +348,7 @@ class Machine(abc.ABC):
             if dim == 0:
                 raise ValueError("a block of one processor has no halves")
             middle = base + (1 << dim - 1)
-            upper = _Hold(Region(middle, dim - 1), lower.handle and Handle())
+            upper = _Hold(Region(middle, dim - 1), Handle() if lower.handle else None)
             lower.region, self._holds[middle] = Region(base, dim - 1), upper
             self._cut(lower, upper)
             return Block(self, upper)
@@ -455,8 +454,8 @@ class Regions(Machine):
 
 
 def _drop(handle: Handle, holds: Dict[int, _Hold], mark: object) -> None:
-    """Frees a machine that nobody has any more, with the blocks that were forgotten. If the process is a child of the
-    one that opened it, the memory is a copy, in which a thread may have stopped inside a call: leaves it alone."""
+    """Frees a machine that nobody has any more, with the blocks that were forgotten. Does nothing in the child of a
+    fork: there the memory is a copy, in which a thread may have stopped inside a call."""
     if mark is _Process.mark:
         for hold in holds.values():
             _regions.release(handle, hold.handle)

@@ -203,7 +203,8 @@ def threads_take_turns():
             thread.start()
         for thread in threads:
             thread.join()
-        must(len({*found}) == 16_000 and len(machine.held()) == 16_001, f"{make.__name__}: {len({*found})} of {len(found)}")
+        must(len({*found}) == 16_000, f"{make.__name__}: {len({*found})} of {len(found)}")
+        must(len(machine.held()) == 16_001, f"{make.__name__} lists {len(machine.held())} blocks")
 
 
 def ctrl_c_loses_no_block():

@@ -4,9 +4,9 @@
     checks/run python --long               random programs at length, over those of release/
     checks/run python .. --seed N          random programs from this seed on
 
-It runs the examples of the module's page, and small programs on what the module promises of blocks, machines, memory and
-processes. Random programs run beside a model. mypy reads the module and programs of users, where it is installed. pip
-installs the module into a virtual environment and removes it.
+It runs the examples of the module's page, and small programs on what the module promises of blocks, machines, memory
+and processes. Random programs run beside a model. mypy reads the module and programs of users, where it is installed.
+pip installs the module into a virtual environment and removes it.
 """
 import argparse
 import ast
@@ -70,7 +70,8 @@ def rows(module, work, folder):
     for file in ("behaviour.py", "forks.py"):
         yield from (Row(it.replace("_", " "), module.runs, (f"{HERE}/{file}", it)) for it in programs(file))
     for method in multiprocessing.get_all_start_methods():
-        yield Row(f"workers by {method}", module.runs, (f"{HERE}/forks.py", "workers_have_machines_of_their_own", method))
+        words = f"{HERE}/forks.py", "workers_have_machines_of_their_own", method
+        yield Row(f"workers by {method}", module.runs, words)
     yield from wheel.rows(work, folder)
 
 

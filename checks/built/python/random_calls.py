@@ -1,8 +1,9 @@
 """Makes random calls of the Python module beside a model: `python3 random_calls.py alone|threads SEED CALLS`.
 
-Alone, each answer and each refusal must be that of the model: a table with the owner of each processor, in which the
-first fit is found by looking at each block from the lowest on. Of the lock-free allocator the model allows each free
-block. Threads share machines over a table of owners: they pass blocks by queues, forget them, release them twice and by
+Alone, each answer and each refusal must be that of the model, which is a table with the owner of each processor. It
+finds the first fit by looking at each block from the lowest on. Of the lock-free allocator it allows each free block.
+
+Threads share machines over a table of owners. They pass blocks by queues, forget them, release them twice and by
 machines of others, and leave them by exceptions.
 """
 import collections
@@ -237,8 +238,8 @@ class Alone:
             if self.random.random() < 0.02:
                 self.random.choice((self.close, self.close, self.renew))()
         for name, refusal in (("take", "NoRoom"), ("take_at", "NoRoom"), ("split", "ValueError"), ("join", "done"),
-                              ("join", "NotHeld"), ("join", "ValueError"), ("release", "NotHeld"), ("close", "StillHeld"),
-                              ("close", "done"), ("take", "done"), ("take", "ValueError"), ("split", "NotHeld")):
+                              ("join", "NotHeld"), ("join", "ValueError"), ("release", "NotHeld"), ("take", "done"),
+                              ("close", "StillHeld"), ("close", "done"), ("take", "ValueError"), ("split", "NotHeld")):
             must(self.seen[name, refusal] > calls // 5000, f"only {self.seen[name, refusal]} of {name}: {refusal}")
 
 
@@ -246,7 +247,7 @@ class Crew:
     """Threads that share machines, over tables of owners."""
 
     def __init__(self, seed, calls):
-        self.homes = [(machine, [None] * (1 << machine.dim)) for machine in (Regions(MOST_DIM), FirstFit(FIT_DIM))]
+        self.homes = [(it, [None] * (1 << it.dim)) for it in (Regions(MOST_DIM), FirstFit(FIT_DIM))]
         # A first fit looks past this block, so it takes its time: more threads meet at the machine.
         self.first = self.homes[1][0].take(FIT_DIM - 1)
         self.queues, self.left = [queue.SimpleQueue() for _ in range(THREADS)], queue.SimpleQueue()
@@ -311,7 +312,8 @@ class Member:
                 block = home[0].take(dim)
             else:
                 last = 1 << home[0].dim
-                block = home[0].take_at(self.random.randrange(last - (1 << MOST_DIM), last) >> dim << dim, dim)
+                base = self.random.randrange(last - (1 << MOST_DIM), last)
+                block = home[0].take_at(base >> dim << dim, dim)
         except NoRoom:
             return
         self.mark(home, block.region, None, home)
