@@ -1,8 +1,8 @@
 """Compares the codes of the libraries for C, which share one row of numbers.
 
 A name has one number in all headers, and a number one name. include/cubejobs_codes.h has a text for each number, each a
-different one, and for no other. A crate has the codes of its header that its library returns. The Rust package has the
-numbers of the headers. `checks/run codes` prints what differs.
+different one, and for no other. A crate has the codes of its header that its library returns. The Rust package and the
+page have the numbers of the headers. `checks/run codes` prints what differs.
 """
 import re
 from typing import NamedTuple, Tuple
@@ -32,6 +32,9 @@ TEXTS = "cubejobs_codes.h"
 # Where the Rust package has numbers of codes, and the header that they are of.
 IN_RUST = {"ffi.rs": "cubejobs.h", "fit_ffi.rs": "cubejobs.h", "regions_ffi.rs": "cubejobs_regions.h",
            "dispatch_ffi.rs": "cubejobs_dispatch.h", "rounds_ffi.rs": "cubejobs_rounds.h"}
+# The outcomes of the page, with the codes of cubejobs.h that they show.
+IN_PAGE = {"given": "DONE", "freed": "DONE", "nosubcube": "NO_SUBCUBE", "held": "STATION_HOLDS", "nostation": "NO_STATION",
+           "nothingheld": "NOTHING_HELD"}
 CONSTANT = re.compile(r"^pub const ([A-Z_]+): u32 = (\d+);", re.M)
 
 
@@ -65,6 +68,10 @@ def faults():
                  if name not in ("VERSION", "NO_WORKER")}
         if crate != own:
             yield f"{library.crate} and {library.header} differ in {sorted(set(crate.items()) ^ set(own.items()))}"
+    shown = re.findall(r"^const (?:TAKEN|FREED) = \{ __proto__: null, (.*) \};", read("view/index.html"), re.M)
+    pairs = {word: int(number) for line in shown for number, word in re.findall(r'(\d+): "(\w+)"', line)}
+    if pairs != {word: headers["cubejobs.h"][name] for word, name in IN_PAGE.items()}:
+        yield f"view/index.html has the codes {pairs}"
     for file, header in IN_RUST.items():
         constants = CONSTANT.findall(read("rust/src", file))
         for name, number in constants:
