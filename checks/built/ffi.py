@@ -12,8 +12,9 @@ headers with a fault, must be seen. The examples are built and run. A language w
 
 The libraries of plain Rust (`rust/c`) are called too, in the gate by the plainest programs.
 
-`checks/run ffi [--after-gate] [--source] [--long] [--seconds N] [--only WORD]`. With `--source` it calls only the
-libraries of plain Rust, by all programs. With `--after-gate` it takes the libraries below as `rt ci` has just left them. With `--long` it makes more than 10^7 calls of the exact allocator, 10^8 takes of the regions,
+`checks/run ffi [--after-gate] [--libraries FOLDER] [--source] [--long] [--seconds N] [--only WORD]`. With `--source` it
+calls only the libraries of plain Rust, by all programs. With `--libraries` it takes the archives of a folder, and builds
+none. With `--after-gate` it takes the libraries below as `rt ci` has just left them. With `--long` it makes more than 10^7 calls of the exact allocator, 10^8 takes of the regions,
 and passes 10^7 jobs. Regions and jobs run under each sanitizer for N seconds each, or half an hour. With `--only` it runs
 the rows whose names have the word.
 """
@@ -354,6 +355,17 @@ def word_after(words, option, default):
     return words[words.index(option) + 1] if option in words else default
 
 
+def put_libraries(room, made, after_gate):
+    """Puts the libraries into a folder: those of another folder, or else those that it builds."""
+    for crate in archive.LIBRARIES:
+        if made:
+            shutil.copy(os.path.join(made, f"lib{crate}.a"), room)
+        else:
+            build(crate, after_gate)
+    if not made:
+        archive.main([room])
+
+
 def prepared(room):
     """Puts into a folder what rows compile beside the libraries. Returns the folder."""
     put(f"{room}/own.c", OWN_NAMES)
@@ -376,9 +388,7 @@ def main(words):
     seconds, wanted = int(word_after(words, "--seconds", HALF_AN_HOUR)), []
     with tempfile.TemporaryDirectory() as room:
         if not is_source:
-            for crate in archive.LIBRARIES:
-                build(crate, AFTER_GATE in words)
-            archive.main([room])
+            put_libraries(room, word_after(words, "--libraries", ""), AFTER_GATE in words)
             wanted += [*rows(prepared(room), longer, seconds), Row("the Rust package", rust, (room,))]
         if is_source or shutil.which("cargo"):
             os.mkdir(f"{room}/source")

@@ -127,7 +127,8 @@ def installs_from_a_tarball(clone, work):
     room = os.path.join(work, "unpacked")
     os.makedirs(room)
     with tarfile.open(tarball(clone, room)) as it:
-        it.extractall(room, filter="data")
+        # Not each Python 3.11 has this filter.
+        it.extractall(room, **({"filter": "data"} if hasattr(tarfile, "data_filter") else {}))
     for top in (clone, os.path.join(room, f"cubejobs-{version.of_sources()}")):
         places.append(os.path.join(work, f"installed{len(places)}"))
         status, _, said = answer([os.path.join(top, "install"), "--prefix", "/p", "--destdir", places[-1]], "", text=True)

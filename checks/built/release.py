@@ -1,5 +1,7 @@
 """Compares the files of release/ with what was built from these sources, to the byte.
 
+`checks/run release --sums` looks at the files of release/ alone: they are of these sources, and have their sums.
+
 `checks/run release FOLDER` finds in FOLDER what was just built from nothing. Where release/ is of these sources, each
 of its files for x86-64 must be that very file, and need no symbol of a C library later than 2.34. Where another build of the
 toolchain made release/ and this one makes other bytes, the comparison is skipped. Where the sources have moved on, it
@@ -237,9 +239,20 @@ def compare(built):
     return wrong
 
 
+def faults_of_sums():
+    """Yields what is wrong with the files of release/, as far as it shows without a build."""
+    release = Release(RELEASE)
+    if release.said("sources") != sum_of_sources():
+        yield "the files of release/ are of other sources than these: .ci/run builds and tests these, by the prover"
+        return
+    yield from [*release.faults(None), *lacking(RELEASE), *stale_copies(), *faults_of_aarch64()]
+
+
 def main(words):
     if words == ["--renew"]:
         return renew()
+    if words == ["--sums"]:
+        return print_faults(f"release: {it}" for it in faults_of_sums())
     if len(words) != 1:
         raise Wrong(__doc__)
     for it in not_seen(words[0]):

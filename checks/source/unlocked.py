@@ -17,9 +17,9 @@ import os
 import re
 
 from checks.lib.rattle_source import uncommented
+from checks.lib.crates import libraries_of, uses_of
 from checks.lib.repository import ROOT, files_below, read
 from checks.lib.rows import print_faults
-from checks.lib.toolchain import crates
 
 TOPS = ("line_ruled", "floor_bitmap", "floor_tree", "cubejobs_regions", "cubejobs_dispatch", "wake_calls")
 ALLOWED = {
@@ -35,12 +35,12 @@ WAITS = {"crates/floor_bitmap/src/floor_bitmap.rt": 1, "crates/floor_tree/src/fl
 
 def faults_of(crate, root):
     """Yields what is wrong in the sources of a crate, and in its line of crates.txt."""
-    for dep in crate.of_kit:
+    for dep in libraries_of(crate, root):
         if dep not in ALLOWED:
-            yield f"crates.txt: {crate.name} stands on {dep}"
-    files = files_below(f"{crate.folder}/src", ".rt")
+            yield f"crates.txt: {crate} stands on {dep}"
+    files = files_below(os.path.join(root, "crates", crate, "src"), ".rt")
     if not files:
-        yield f"{crate.name}: no source was found"
+        yield f"{crate}: no source was found"
     for file in files:
         text, name = uncommented(read(file)), os.path.relpath(file, root)
         yield from (f"{name}: {word}" for word in sorted({it[0] for it in LOCKS.finditer(text)}))
@@ -51,9 +51,8 @@ def faults_of(crate, root):
 
 def main(words):
     root = os.path.realpath(words[0]) if words else ROOT
-    known = crates(root)
-    names = sorted({below for top in TOPS for below in [top, *(it.name for it in known[top].below())]})
-    status = print_faults(fault for name in names for fault in faults_of(known[name], root))
+    names = sorted({below for top in TOPS for below in [top, *uses_of(top, root)]})
+    status = print_faults(fault for name in names for fault in faults_of(name, root))
     if not status:
         print(f"unlocked: {len(names)} crates have no lock")
     return status
