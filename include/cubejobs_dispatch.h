@@ -3,9 +3,9 @@
  *
  * A job is a number of yours, say a pointer (payload), and the dimension of the block that it
  * wants. Each producer has a lane, which holds at most `capacity` jobs. Each worker takes from any
- * lane. A submit or a take makes at most five atomic steps, and takes no lock. A submit to a shared
- * lane makes at most ten. Each accepted job is taken once or is left at the end, in the order of
- * its lane. This is proved for every interleaving of the calls.
+ * lane. A submit or a take makes at most five atomic steps, and takes no lock. Each accepted job is
+ * taken once or is left at the end, in the order of its lane. This is proved for every interleaving
+ * of the calls. Shared lanes are only tested.
  *
  * The dispatcher has lanes and a machine with the processors 0 to 2^dim - 1. A processor is only a
  * number: a CPU, a page, a rank. A worker gets its next job together with a block of the machine.
@@ -28,9 +28,9 @@
  *
  * Proof. The functions are proved to do what this header says. Some of it is only tested: when
  * memory is taken and freed, that OUT_OF_MEMORY means so, and that the owner finds all that came
- * back. So is when STILL_SHARED comes, and that a worker that is named has its token. No theorem is
- * about the inline functions, or says that submit and take order the plain memory that a payload
- * points to.
+ * back. So is when STILL_SHARED comes, and that a worker that is named has its token. So is that a
+ * submit to a shared lane submits its job once, and no other. No theorem is about the inline
+ * functions, or says that submit and take order the plain memory that a payload points to.
  *
  * Nothing checks the caller's duties:
  *

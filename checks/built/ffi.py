@@ -175,13 +175,15 @@ def programs_of_regions(longer, seconds):
     yield Program(CALLS("arena"), [REGIONS])
 
 
-WRAPPED_LANES = ",".join(f"--wrap=cubejobs_lanes_{it}" for it in ("take", "take_any", "close", "rest"))
+WRAPPED_LANES = ",".join(f"--wrap=cubejobs_lanes_{it}" for it in ("take", "take_any", "close", "rest", "submit_shared"))
 # What is wrong with a library of lanes, and what the calls say then.
 WRONG_LANES = (
     ("some jobs come twice", b"another answer"),
     ("a job loses its dimension", b"another answer"),
     ("a close counts too few", b"another answer"),
     ("jobs that are left are forgotten", b"another answer"),
+    ("a submit to a shared lane submits twice", b"another answer"),
+    ("a submit to a shared lane submits another job first", b"another answer"),
 )
 
 

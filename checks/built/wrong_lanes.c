@@ -3,7 +3,9 @@
  *   1  each thousandth job comes twice
  *   2  a job comes with the dimension of none
  *   3  a close counts one job too few
- *   4  the rest of the jobs is forgotten */
+ *   4  the rest of the jobs is forgotten
+ *   5  a submit to a shared lane submits its job twice
+ *   6  a submit to a shared lane submits another job first */
 #include "cubejobs_dispatch.h"
 
 typedef struct cubejobs_job_answer answer;
@@ -15,6 +17,10 @@ struct cubejobs_close_answer __real_cubejobs_lanes_close(struct cubejobs_lanes *
 struct cubejobs_close_answer __wrap_cubejobs_lanes_close(struct cubejobs_lanes *owner);
 answer __real_cubejobs_lanes_rest(struct cubejobs_lanes *owner);
 answer __wrap_cubejobs_lanes_rest(struct cubejobs_lanes *owner);
+struct cubejobs_submit_answer __real_cubejobs_lanes_submit_shared(struct cubejobs_shared_lane *shared, uint64_t payload,
+                                                                  uint32_t dim);
+struct cubejobs_submit_answer __wrap_cubejobs_lanes_submit_shared(struct cubejobs_shared_lane *shared, uint64_t payload,
+                                                                  uint32_t dim);
 
 answer __wrap_cubejobs_lanes_take(struct cubejobs_worker *worker, uint32_t lane) {
     answer given = __real_cubejobs_lanes_take(worker, lane);
@@ -34,6 +40,12 @@ struct cubejobs_close_answer __wrap_cubejobs_lanes_close(struct cubejobs_lanes *
     struct cubejobs_close_answer given = __real_cubejobs_lanes_close(owner);
     if (WRONG == 3 && given.accepted) given.accepted--;
     return given;
+}
+
+struct cubejobs_submit_answer __wrap_cubejobs_lanes_submit_shared(struct cubejobs_shared_lane *shared, uint64_t payload,
+                                                                  uint32_t dim) {
+    if (WRONG >= 5) (void)!__real_cubejobs_lanes_submit_shared(shared, WRONG == 5 ? payload : 0, dim).code;
+    return __real_cubejobs_lanes_submit_shared(shared, payload, dim);
 }
 
 answer __wrap_cubejobs_lanes_rest(struct cubejobs_lanes *owner) {

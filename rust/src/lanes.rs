@@ -2,7 +2,7 @@
 //!
 //! Each producer has a [`Lane`], and each worker takes jobs from any lane. A submit or a take is a
 //! few atomic steps. Each accepted job is taken once, or is left at the end. This is proved of the
-//! library for every interleaving of the calls.
+//! library for every interleaving of the calls. Shared lanes are only tested.
 //!
 //! ```
 //! use cubejobs::lanes::{Lanes, Sizes};
