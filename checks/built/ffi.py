@@ -320,7 +320,7 @@ def rows(room, longer, seconds):
     yield from rows_of_crowds(room, longer, seconds)
     yield from rows_of_waits(room)
     yield from rows_of_owners(room, longer)
-    yield from misuse.rows(room, f"{room}/lib{REGIONS}.a", f"{room}/lib{DISPATCH}.a")
+    yield from misuse.rows(room, *(f"{room}/lib{it}.a" for it in (REGIONS, DISPATCH, EXACT)))
     for compiler in (CHECKED, [*CLANG[:2], "-xc"]):
         program = Program("examples/pinjobs.c", [EXACT], compiler)
         yield Row(f"{program.source} by {' '.join(compiler)}", pinjobs.must_work, (room, program))

@@ -55,6 +55,17 @@ def does_not_mix(room, library, linker, order):
             must(started != 0 and MIXED in told, f"{linker} takes a part without CUBEJOBS_CHECK")
 
 
+def owners_are_checked(room, *libraries):
+    """Runs the tests of the owners of C++ in a checking build."""
+    needs("g++")
+    compiled(["gcc", *STRICT, CHECK, "-c", CHECKER, "-o", f"{room}/checker.o"])
+    words = ["g++", "-std=c++11", CHECK, INCLUDE, "-O1", "-Wall", "-Wextra", "-Werror", "-Wno-self-move"]
+    words += [path("checks/built/owners_calls.cpp"), f"{room}/checker.o", *libraries, "-pthread", "-lm"]
+    compiled([*words, "-o", f"{room}/owners"])
+    status, out, said = answer([f"{room}/owners"], timeout=SECONDS)
+    must(status == 0, f"status {status}: {(out + said).decode(errors='replace')[:600]}")
+
+
 def plugins_are_apart(room, library):
     """Loads two plug-ins, each with a machine: over the archive, and over a shared object if it is there."""
     source, made = path("checks/built/plugin.c"), []
@@ -92,8 +103,9 @@ def crash_has_its_frames(room):
     must(status == 0 and not frames, f"status {status}, no {frames}: {(out + said).decode(errors='replace')[:600]}")
 
 
-def rows(room, regions, lanes):
-    """Yields the rows over the libraries of regions and of lanes."""
+def rows(room, regions, lanes, exact):
+    """Yields the rows over the libraries of regions, of lanes and of exact first fit."""
+    yield Row("the owners of C++ in a checking build", owners_are_checked, (room, regions, lanes, exact))
     for linker in LINKERS:
         for order in ((0, 1, 2), (2, 1, 0), (1, 2, 0)):
             yield Row(f"files with and without checks by {linker}, {order}", does_not_mix, (room, regions, linker, order))

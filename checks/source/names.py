@@ -1,5 +1,5 @@
 """Finds what documents name that is not there: a word in backticks that is nowhere in this repository, a path, and
-a relative link whose file or heading does not exist.
+a relative link whose file or heading does not exist. It also compares the numbers of mutants that documents give.
 
 A word counts as there where a source, a script, a header or an example has it, or the name of a file. Of a page on
 calling the part above its example is read. CHANGELOG.md may name what an older version had, but no broken link.
@@ -13,6 +13,12 @@ from checks.lib.repository import ROOT, path, place, read
 from checks.lib.rows import blind, print_faults
 from checks.source.prose import GENERATED, documents, outside_code
 
+# Mutants, and what a document says of their number.
+COUNTS = (
+    (("mutants", "*", "*.edit"), "docs/EVIDENCE.md", r"`mutants/` has ([\d,]+),"),
+    (("mutants", "*", "*.edit"), "docs/EVIDENCE.md", r"- `edits`, [^.]*the ([\d,]+) mutants"),
+    (("rust", "pool", "mutants", "*.edit"), "docs/EVIDENCE.md", r"pool has ([\d,]+) mutants"),
+)
 # Words of the toolchain, of the system and of other libraries that nothing here uses, and parts of other languages.
 EXCUSED = {
     "rt": "tidy untested holes RT_JOBS", "Linux": "perf ulimit O_NONBLOCK madvise nice", "MPI": "MPI_Exscan",
@@ -91,9 +97,19 @@ SAMPLES = (
 )
 
 
+def faults_of_counts():
+    """Yields each number of mutants in a document that is not that of the files."""
+    for folder, file, said in COUNTS:
+        count = f"{len(glob.glob(path(*folder))):,}"
+        found = re.search(said, read(file))
+        if not found or found[1] != count:
+            yield f"{file}: there are {count} mutants, and it says {found[1] if found else 'nothing'}"
+
+
 def main(words):
     pages = [place(os.path.realpath(it)) for it in words] or [*documents(), *GENERATED]
     known = words_of_tree()
     faults = [fault for page in pages if os.path.exists(path(page)) for fault in faults_in(page, read(page), known)]
+    faults += [] if words else faults_of_counts()
     faults += blind("names", (([*faults_in("README.md", text, known)], wanted) for text, wanted in SAMPLES))
     return print_faults(faults)
