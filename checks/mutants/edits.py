@@ -10,12 +10,13 @@ of the tree's algorithm, which is in definition and code alike, stands alone too
 must be refused, by lemmas of its line `refused by:` and by nothing else. The functions of its line `code:` must be
 proved, unless they only call what stands on the law.
 
-    checks/run edits [--stale | --plan] [--after-gate] [--anew] [--share N] [--keep FOLDER] [--from FOLDER] [CRATE | CRATE/EDIT ..]
+    checks/run edits [--stale | --plan] [--after-gate] [--anew] [--due] [--keep FOLDER] [--from FOLDER] [CRATE | CRATE/EDIT ..]
 
 With no name it tries all mutants of mutants/CRATE. --stale only sees that each can be applied. --plan shows which share
 a check. --after-gate takes the libraries below as `rt ci` has just left them; without it they are built first. What was
 refused is kept in ~/.cache/cubejobs/edits, by a sum of all that the verdict stands on, and with --anew each is tried.
---share tries one of N parts of the mutants. Which one depends on the sources, so that after a change it is another.
+--due tries those of crates that have changed, and of others the oldest: `due` says which. Where all of a run are refused,
+it notes in mutants/CRATE/TRIED the day of each crate of which all were tried: commit these files.
 --keep puts what each check said into a folder. --from takes CRATE's mutants from FOLDER/CRATE. It says of a mutant:
 
     refused   its function has a goal of its own that is not proved, or that its proof file does not meet; or its law
@@ -34,11 +35,11 @@ import shutil
 import subprocess
 import sys
 import tempfile
-import zlib
 from concurrent.futures import ThreadPoolExecutor
 
-from checks.lib.repository import PARTS, read, write
-from checks.lib.toolchain import build_below, crates, kit, sum_of_sources
+from checks.lib.repository import PARTS, files_below, read, write
+from checks.lib.toolchain import build_below, crates, kit
+from checks.mutants import due
 from checks.mutants.mutant import batches_of, edits_of, path_of, texts_of
 from checks.mutants.verdict import Kept, Tally, judge, names_of
 
@@ -157,21 +158,15 @@ def lanes():
     return max(1, min(len(os.sched_getaffinity(0)), free // CHECK_BYTES))
 
 
-def is_in_share(crate, name, options):
-    """Returns whether a mutant is in the part that is tried."""
-    return zlib.crc32(f"{crate}/{name}".encode()) % options.share == options.part
-
-
 def work_of(options, tally):
     """Returns each crate with the batches of the mutants to be tried, and its texts. Reports those that cannot be."""
     work = []
     for crate in crates().values():
         wanted = [it.partition("/")[2] for it in options.names if it.partition("/")[0] == crate.name]
-        if options.names and not wanted:
+        if (options.names and not wanted) or (options.due and crate.name not in options.chosen):
             continue
         texts = texts_of(crate.folder)
         edits = [it for it in edits_of(crate.name, texts, options.from_folder) if not any(wanted) or it.name in wanted]
-        edits = [it for it in edits if is_in_share(crate.name, it.name, options)]
         for edit in edits:
             if edit.why:
                 tally.tell(crate.name, edit.name, "BAD", edit.why)
@@ -180,6 +175,17 @@ def work_of(options, tally):
         if edits:
             work.append((crate, batches_of(edits, crate.name, texts), texts))
     return work
+
+
+def chosen_crates(options):
+    """Returns the crates whose mutants are tried, and says why these."""
+    counts = {it: len(files_below(f"mutants/{it}", ".edit")) for it in crates()}
+    counts = {crate: count for crate, count in counts.items() if count}
+    if not options.due:
+        return list(counts)
+    found, why = due.chosen_here(counts)
+    print(f"edits: {sum(counts[it] for it in found)} mutants are tried: {why}", flush=True)
+    return found
 
 
 def show_plan(work, options, tally):
@@ -200,9 +206,8 @@ def cost_of(track):
 
 def main(words):
     parser = argparse.ArgumentParser(prog="checks/run edits", usage=__doc__.split("\n\n")[2].strip())
-    for word in ("--stale", "--plan", "--after-gate", "--anew"):
+    for word in ("--stale", "--plan", "--after-gate", "--anew", "--due"):
         parser.add_argument(word, action="store_true")
-    parser.add_argument("--share", type=int, default=1)
     parser.add_argument("--keep")
     parser.add_argument("--from", dest="from_folder")
     parser.add_argument("names", nargs="*")
@@ -210,7 +215,7 @@ def main(words):
     unknown = {it.partition("/")[0] for it in options.names} - {*crates()}
     if unknown:
         sys.exit(f"edits: crates.txt has no crate {', '.join(sorted(unknown))}")
-    options.part = int(sum_of_sources().split()[0]) % options.share
+    options.chosen = chosen_crates(options)
     tally = Tally(Kept(not options.anew))
     work = work_of(options, tally)
     if options.stale or options.plan:
@@ -220,4 +225,7 @@ def main(words):
         tracks = sorted(tracks_of(work), key=cost_of, reverse=True)
         for ran in [pool.submit(try_track, it, options, tally) for it in tracks]:
             ran.result()
-    return tally.end()
+    status = tally.end()
+    if not (status or options.names or options.from_folder):
+        due.note(options.chosen)
+    return status

@@ -14,6 +14,7 @@ from types import SimpleNamespace
 from checks.lib.rattle_source import functions_in, items_in, uncommented
 from checks.lib.repository import path, read, write
 from checks.lib.rows import answer
+from checks.mutants import due
 from checks.mutants.verdict import NAMES_ONLY, lines_of, verdict_of_event
 
 BITS, MEANING = "src/bits.rt", "specs/Represents.antt"
@@ -130,10 +131,18 @@ def of_one(folder, words):
     yield "an open goal is reported, and not searched again", is_so, logs
 
 
+def of_due():
+    """Yields known choices of the mutants that are due: what it is, whether it holds, and what was chosen."""
+    counts, days = {"a": 40, "b": 5, "c": 30, "d": 25}, {"a": "2026-01-03", "b": "2026-01-01", "c": "2026-01-02", "d": ""}
+    for changed, wanted in (("", "d"), ("b", "bd"), ("d", "dbc"), ("ab", "bad"), ("abcd", "dbc"), ("ac", "ca")):
+        crates, why = due.chosen(counts, {it: it in changed for it in counts}, days)
+        yield f"mutants of {changed or 'nothing'} are due", "".join(crates) == wanted, f"{crates}: {why}"
+
+
 def main(words):
     with tempfile.TemporaryDirectory() as folder:
         plant(folder)
-        told = [*of_the_reader(), *of_all(folder, words), *of_one(folder, words)]
+        told = [*of_the_reader(), *of_due(), *of_all(folder, words), *of_one(folder, words)]
     failed = [(what, said) for what, holds, said in told if not holds]
     for what, said in failed:
         print(f"FAILED: {what}\n{said}")
