@@ -3,7 +3,8 @@
  *
  * Each open handle of a machine has a generation, a number that no other one ever has. So has each
  * block since its last take, split or join. A table has the generations of now. A copy of a handle
- * has an old one once the handle was used, so its call is refused with STALE.
+ * has an old one once the machine's handle was shut, or the block was released, split or joined.
+ * Then its call is refused with STALE.
  *
  * One lock guards the table. A take is made outside of it: nobody else can enter its block before.
  * A release is made inside: the next owner enters the block only after this one has left the table.
@@ -33,7 +34,7 @@ static uint64_t last_generation;
 /* The tag of each open handle, or 0 if none was opened. */
 static uint64_t open_tag;
 
-/* The number of machines that were opened. A file without CUBEJOBS_CHECK has its own, by another name. */
+/* The number of machines that were opened. A file without CUBEJOBS_CHECK has another name for it. */
 uint64_t cubejobs_regions_machines;
 #undef cubejobs_regions_machines
 extern uint64_t cubejobs_regions_machines __attribute__((weak));

@@ -4,10 +4,10 @@ A program with CUBEJOBS_CHECK refuses old copies of handles, and does not link w
 each other's blocks. ThreadSanitizer sees two threads with one handle. A crash inside plain Rust has a whole backtrace.
 """
 import os
-import shutil
 
+from checks.built.install import needs
 from checks.lib.repository import path
-from checks.lib.rows import Row, Skipped, answer, must
+from checks.lib.rows import Row, answer, must
 
 SECONDS = 600
 INCLUDE = f"-I{path('include')}"
@@ -18,12 +18,6 @@ MIXED = b"a part of this program was compiled without CUBEJOBS_CHECK"
 # A program, and a part of it.
 WHOLE = '#include "cubejobs_regions.h"\nint part(void);\nint main(void) { return part(); }\n'
 PART = '#include "cubejobs_regions.h"\nint part(void);\nint part(void) { return 0; }\n'
-
-
-def needs(*tools):
-    for tool in tools:
-        if not shutil.which(tool):
-            raise Skipped(f"no {tool} here")
 
 
 def compiled(words, given=""):
@@ -67,7 +61,7 @@ def owners_are_checked(room, *libraries):
 
 
 def plugins_are_apart(room, library):
-    """Loads two plug-ins, each with a machine: over the archive, and over a shared object if it is there."""
+    """Loads two plug-ins, each with the archive and a machine of its own."""
     source, made = path("checks/built/plugin.c"), []
     for number in range(2):
         made.append(f"{room}/plugin{number}.so")

@@ -332,7 +332,7 @@ def check_library(built, writes):
             set_block("library", "\n" + "\n".join(lines) + "\n")
         expect(base64.b64decode(block("library")) == module, f"the library in {PAGE} is the one that rattle builds: --draw --module writes it")
     else:
-        print("page: the library in it is not built anew, since there is no rt")
+        print("page: a build of its library is skipped: there is no rt")
     wanted = output([built, "place", "--dim", "9"], "\n".join(["command,name,dim", *(",".join(map(str, it)) for it in commands), ""]))
     body = """const machine = openExact(await loadLibrary(by("library").textContent), 9);
         return asked.map(([command, name, k]) => (command === "take" ? machine.take(name, k) : machine.free(name)));"""
@@ -417,7 +417,7 @@ def main(words):
     if browser:
         failed.extend(page_browser.faults(browser, schedules, len(CARDS)))
     else:
-        print("page: not opened in a browser, since there is no Chromium")
+        print("page: opening it in a browser is skipped: there is no Chromium")
     cuts, commands = sum(len(one.cuts) for one in schedules), len(place.splitlines()) - 1
     status = print_faults(failed)
     tried = f"{cuts} cuts of {len(schedules)} schedules, {commands} commands, {len(BAD_FILES)} bad files"

@@ -252,6 +252,8 @@ def main(words):
     if words == ["--renew"]:
         return renew()
     if words == ["--sums"]:
+        if not shutil.which("objdump"):
+            print("release: a look at the instructions is skipped: there is no objdump")
         return print_faults(f"release: {it}" for it in faults_of_sums())
     if len(words) != 1:
         raise Wrong(__doc__)

@@ -7,29 +7,21 @@ day first, until those are a tenth of all mutants. If more than half of all muta
 up to half, and says which crates stay due.
 """
 import datetime
-import glob
 import hashlib
 import os
 
 from checks.lib.crates import uses_of
-from checks.lib.repository import path, read, read_bytes, write
+from checks.lib.repository import PARTS, files_below, path, read, read_bytes, write
 
 TRIED = "TRIED"
-# What a verdict on a mutant stands on: folders and files of the crate, and those of each crate below it.
-OF_THE_CRATE, OF_THOSE_BELOW = ("src", "specs", "proofs"), ("specs", "CALLING.md")
-
-
-def files_of(crate, parts):
-    """Returns the files of a crate in these folders, and these files."""
-    found = [it for part in parts for it in glob.glob(path("crates", crate, part, "**"), recursive=True)]
-    found += [path("crates", crate, part) for part in parts]
-    return sorted({it for it in found if os.path.isfile(it)})
 
 
 def sum_of(crate):
     """Returns the sum of what the verdicts on a crate's mutants stand on."""
-    files = files_of(crate, OF_THE_CRATE) + sorted(glob.glob(path("mutants", crate, "*.edit")))
-    files += [file for below in sorted(uses_of(crate)) for file in files_of(below, OF_THOSE_BELOW)]
+    files = [file for part in PARTS for file in files_below(f"crates/{crate}/{part}")]
+    files += files_below(f"mutants/{crate}", ".edit")
+    for below in sorted(uses_of(crate)):
+        files += [*files_below(f"crates/{below}/specs"), *files_below(f"crates/{below}", "CALLING.md")]
     total = hashlib.sha256()
     for file in files:
         total.update(os.path.relpath(file, path()).encode() + b"\0" + read_bytes(file) + b"\0")
