@@ -28,9 +28,10 @@
  *
  * Proof. The functions are proved to do what this header says. Some of it is only tested: when
  * memory is taken and freed, that OUT_OF_MEMORY means so, and that the owner finds all that came
- * back. So is when STILL_SHARED comes, and that a worker that is named has its token. So is that a
- * submit to a shared lane submits its job once, and no other. No theorem is about the inline
- * functions, or says that submit and take order the plain memory that a payload points to.
+ * back. So is when STILL_SHARED comes, and that a submit to a shared lane submits its job once, and
+ * no other. That the worker which a find or a wake names has its token is proved for lanes. It is
+ * tested for shared lanes and for a dispatcher. No theorem is about the inline functions, or says
+ * that submit and take order the plain memory that a payload points to.
  *
  * Nothing checks the caller's duties:
  *

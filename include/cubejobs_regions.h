@@ -121,8 +121,8 @@ struct cubejobs_block {
 
 /* The result of a call about a block. If the code is CUBEJOBS_REGIONS_DONE, the block is the 2^dim
  * processors from base on. Otherwise base and dim are 0. cubejobs_regions_code_of returns the code
- * as its type. If the code is CUBEJOBS_REGIONS_NOT_NOW, contended is the number of words that were
- * given up after lost exchanges. A quick take counts none. With any other code it is 0. */
+ * as its type. If an exact take or a take of one block returns CUBEJOBS_REGIONS_NOT_NOW, contended
+ * is 1: it gave up a word after lost exchanges. Otherwise contended is 0. */
 struct cubejobs_regions_answer {
     uint16_t code;
     uint16_t dim;

@@ -130,15 +130,52 @@ static void codes_of_lanes(void) {
     IS(cubejobs_lanes_free(&made), DONE);
 }
 
-/* One thread, with a shared lane and a worker: each code of a wake by a producer of a shared lane, but BUSY. */
+#define CROWD 80
+
+/* One thread, with three lanes and a crowd of workers, of which two sleep: which worker each call names, and in which lane a
+ * worker begins. Worker 0 is awake. */
+static void names_of_workers(uint32_t near, uint32_t far) {
+    static struct cubejobs_lanes made;
+    static struct cubejobs_lane lane[3];
+    static struct cubejobs_worker crowd[CROWD];
+    uint32_t i;
+    IS(cubejobs_lanes_open(&made, 3, CROWD, 4), DONE);
+    for (i = 0; i < 3; i++) IS(cubejobs_lanes_lane(&made, &lane[i]), DONE);
+    for (i = 0; i < CROWD; i++) IS(cubejobs_lanes_worker(&made, &crowd[i]), DONE);
+    FINDS_NONE(cubejobs_lanes_find(&crowd[near], 0), PARK);
+    FINDS_NONE(cubejobs_lanes_find(&crowd[far], 0), PARK);
+    IS(cubejobs_lanes_submit(&lane[0], 70, 1).code, DONE);
+    WAKES(cubejobs_lanes_wake(&lane[0]), near);
+    IS(cubejobs_lanes_submit(&lane[2], 72, 2).code, DONE);
+    WAKES_NONE(cubejobs_lanes_wake(&lane[2]), NOBODY);
+    IS(cubejobs_lanes_awake(&crowd[far]), PARK);
+    IS(cubejobs_lanes_awake(&crowd[near]), DONE);
+    FINDS(cubejobs_lanes_find(&crowd[near], 2), 2, 2, far, 0, 72, 0);
+    IS(cubejobs_lanes_awake(&crowd[far]), DONE);
+    FINDS(cubejobs_lanes_find(&crowd[far], 2), 0, 1, NONE, 0, 70, 0);
+    /* An awake worker begins with its lane too. */
+    IS(cubejobs_lanes_submit(&lane[0], 73, 3).code, DONE);
+    IS(cubejobs_lanes_submit(&lane[1], 74, 4).code, DONE);
+    FINDS(cubejobs_lanes_find(&crowd[0], 1), 1, 4, NONE, 0, 74, 0);
+    FINDS(cubejobs_lanes_find(&crowd[0], 1), 0, 3, NONE, 1, 73, 0);
+    for (i = 0; i < CROWD; i++) IS(cubejobs_lanes_free_worker(&crowd[i]), DONE);
+    for (i = 0; i < 3; i++) IS(cubejobs_lanes_free_lane(&lane[i]), DONE);
+    WANT(cubejobs_lanes_close(&made).accepted, 4);
+    IS(cubejobs_lanes_finish(&made).code, DONE);
+    IS(cubejobs_lanes_free(&made), DONE);
+}
+
+/* One thread, with a shared lane and two workers, of which one sleeps: each code of a wake by a producer of a shared lane, but
+ * BUSY. */
 static void codes_of_shared(void) {
     static struct cubejobs_lanes made;
     static struct cubejobs_lane lane;
     static struct cubejobs_shared_lane shared, other;
-    static struct cubejobs_worker worker;
+    static struct cubejobs_worker awake, worker;
     WAKES_NONE(cubejobs_lanes_wake_shared(&shared), NOT_OPEN);
-    IS(cubejobs_lanes_open(&made, 1, 1, 2), DONE);
+    IS(cubejobs_lanes_open(&made, 1, 2, 2), DONE);
     IS(cubejobs_lanes_lane(&made, &lane), DONE);
+    IS(cubejobs_lanes_worker(&made, &awake), DONE);
     IS(cubejobs_lanes_worker(&made, &worker), DONE);
     WAKES_NONE(cubejobs_lanes_wake_shared((struct cubejobs_shared_lane *)&worker), OTHER_KIND);
     IS(cubejobs_lanes_share(&lane, &shared), DONE);
@@ -146,13 +183,14 @@ static void codes_of_shared(void) {
     FINDS_NONE(cubejobs_lanes_find(&worker, 0), PARK);
     WAKES_NONE(cubejobs_lanes_wake_shared(&shared), NOBODY);
     IS(cubejobs_lanes_submit_shared(&other, 70, 1).code, DONE);
-    WAKES(cubejobs_lanes_wake_shared(&other), 0);
+    WAKES(cubejobs_lanes_wake_shared(&other), 1);
     WAKES_NONE(cubejobs_lanes_wake_shared(&shared), NOBODY);
     IS(cubejobs_lanes_awake(&worker), DONE);
     FINDS(cubejobs_lanes_find(&worker, 0), 0, 1, NONE, 0, 70, 0);
     IS(cubejobs_lanes_free_shared(&shared), DONE);
     IS(cubejobs_lanes_free_shared(&other), DONE);
     IS(cubejobs_lanes_free_worker(&worker), DONE);
+    IS(cubejobs_lanes_free_worker(&awake), DONE);
     WANT(cubejobs_lanes_close(&made).accepted, 1);
     IS(cubejobs_lanes_finish(&made).code, DONE);
     IS(cubejobs_lanes_free(&made), DONE);
@@ -367,6 +405,9 @@ int main(int count, char **words) {
     for (code = CUBEJOBS_DISPATCH_NOBODY; code <= CUBEJOBS_DISPATCH_ASLEEP; code++)
         expect(strcmp(cubejobs_code_text(code), cubejobs_code_text(1000)), "a code without a text");
     codes_of_lanes();
+    names_of_workers(1, 2);
+    names_of_workers(62, 63);
+    names_of_workers(40, 70);
     codes_of_shared();
     codes_of_dispatch();
     threads_park(0);

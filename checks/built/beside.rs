@@ -26,6 +26,7 @@ mod shared;
 mod source;
 
 use region::Region;
+use source::bitmap_tree::HiddenSeat;
 use source::kit::alloc::Global;
 use source::kit::opaque::Opaque;
 use source::{
@@ -212,7 +213,7 @@ struct Regions {
 
 impl Regions {
     fn new() -> Self {
-        let seat = || blocks::hidden_seat::HiddenSeat {};
+        let seat = HiddenSeat::blank;
         let shut = || blocks::Handle { tag: 0, ptr: Opaque::nothing(Global), seat: seat() };
         Regions {
             one: (0..MACHINES * THREADS).map(|_| regions_ffi::Handle::SHUT).collect(),

@@ -16,6 +16,7 @@ mod shared;
 #[rustfmt::skip]
 mod source;
 
+use source::bitmap_tree::HiddenSeat;
 use source::kit::alloc::Global;
 use source::kit::opaque::Opaque;
 use source::{cubejobs_dispatch as jobs, cubejobs_regions as blocks};
@@ -67,7 +68,7 @@ fn shut() -> jobs::Handle {
 }
 
 fn use_blocks(rounds: u64) {
-    let seat = || blocks::hidden_seat::HiddenSeat {};
+    let seat = HiddenSeat::blank;
     let new = || blocks::Handle { tag: 0, ptr: Opaque::nothing(Global), seat: seat() };
     let mut first = new();
     assert_eq!(blocks::cubejobs_regions_open_version(&mut first, blocks::VERSION, DIM, 1), 0);

@@ -27,6 +27,16 @@ CRATES = (
     "release_version", "cube_shape", "region_bits", "cubejobs_c", "collectives", "rank_steps", "cubejobs_rounds",
     "bitmap_tree", "bitmap_occupancy", "cubejobs_regions", "ghost_log", "wake_pool", "wake_calls", "job_lanes", "kept_places",
     "region_shop", "shop_owner", "cubejobs_dispatch")
+# The crates of the tree of status words, and the collectives as a whole. Only the check `steps` erases them, without the
+# pure machine, the texts of errors, and the text and the flags of a word.
+TREE = ("status_word", "cube_core", "tree_steps", "cube_tree", "collectives")
+LEFT_OUT = (
+    (r"\n *#\[error\(.*?\)\]", ""), (r"use thiserror::Error;\n", ""), (r", Error\)\]", ")]"),
+    (r"    /// Returns the word as text.*?\n}\n(?=\n/// Proves)", "}\n"), (r"    /// Returns the bits of use\..*?\n    }\n\n", ""),
+    (r"use crate::use_bits::UseBits;\nuse bitflags::Flags;\n|use std::(?:alloc::{AllocError, Global}|fmt::Write);\n(?=.*push_mark)", ""),
+    (r"(?<=\n)(?:mod (?:use_bits|act|effect|world|padding)|pub use (?:use_bits|act|world|padding)::[^;]*);\n", ""),
+)
+NO_TREE = ("status_word/use_bits", "cube_core/act", "cube_core/effect", "cube_core/world", "collectives/padding")
 SOURCE, KIT = "crate::source", "crate::source::kit"
 # What the shim has of the toolchain's crates and of its `std`. Other paths of `std` are those of `core`, if listed.
 KIT_CRATES = ("atomic_table", "counted_slot")
@@ -51,8 +61,9 @@ use {KIT}::opaque::Opaque;
 pub(crate) type OpaquePtr = Opaque<State>;
 """
 # For a text of a source, another one. A `Drop` in Rust gets its value by reference, and takes the lane out of its
-# place. The size of a machine is that of the target.
+# place. The size of a machine is that of the target. A handle that is shut is a constant of the Rust package.
 MENDED = (
+    ("bitmap_tree/steps", "pub fn blank() -> HiddenSeat", "pub const fn blank() -> HiddenSeat"),
     ("cubejobs_dispatch/share", "fn let_go(self) {\n        let Share {\n            common,\n            number,\n"
      "            place,\n        } = self;\n        if let Some(kept) = place.into_inner() {\n"
      "            drop(leave(&common.lane_places[number as usize], kept));",
@@ -218,8 +229,8 @@ def exported(crate, name, parameters, head):
 class Eraser:
     """What is known of a crate while its files are erased."""
 
-    def __init__(self, crate, droppable):
-        self.crate, self.droppable = crate, droppable
+    def __init__(self, crate, droppable, unused=UNUSED):
+        self.crate, self.droppable, self.unused = crate, droppable, unused
         self.file, self.is_for_c, self.derived, self.drops, self.exports = "", False, [], [], []
 
     def erased(self, items):
@@ -418,7 +429,7 @@ class Eraser:
         name = after(items, at + 1)
         if not self.file.endswith("/lib") or items[name + 1] != ";":
             raise Unknown(f"{self.file}: the module {items[name]}")
-        if f"{self.crate}/{items[name]}" in UNUSED:
+        if f"{self.crate}/{items[name]}" in self.unused:
             strip_head(out)
             return name + 2
         out += [token("pub(crate) "), items[at]]
@@ -427,7 +438,7 @@ class Eraser:
     def on_use(self, items, at, out):
         """Leaves out what has no meaning in Rust: models. Leaves out names of modules that are not used."""
         end = until(items, at, ";")
-        if f"{self.crate}/{items[after(items, at + 1)]}" in UNUSED and self.file.endswith("/lib"):
+        if f"{self.crate}/{items[after(items, at + 1)]}" in self.unused and self.file.endswith("/lib"):
             strip_head(out)
             return end + 1
         if not re.search(r"\bModel\b", shown(items[at:end])):
@@ -447,7 +458,7 @@ class Eraser:
             return None
         if name == "crate":
             out.append(token(f"{SOURCE}::{self.crate}"))
-        elif name in CRATES:
+        elif name in CRATES or name in TREE:
             out.append(token(f"{SOURCE}::{name}"))
         elif name in KIT_CRATES:
             out.append(token(f"{KIT}::{name}"))
@@ -558,10 +569,10 @@ def erased_crate(crate):
     return erased_files(crate, {it: files[it] for it in files if it != "tests" and f"{crate}/{it}" not in UNUSED})
 
 
-def erased_files(crate, files):
+def erased_files(crate, files, unused=UNUSED):
     """Returns the erased texts of these sources of a crate by their names, and the eraser that has read them."""
     droppable = {it for text in files.values() for it in re.findall(r"\bimpl(?:<[^{]*?>)? Drop for (\w+)", text)}
-    eraser, made = Eraser(crate, droppable), {}
+    eraser, made = Eraser(crate, droppable, unused), {}
     for file, text in files.items():
         name = f"{crate}/{file}"
         eraser.file = name
@@ -574,6 +585,14 @@ def erased_files(crate, files):
         erased = shown(eraser.erased(parsed(mended(name, text))))
         made["mod" if file == "lib" else file] = with_head(name, erased)
     return made, eraser
+
+
+def erased_tree(crate):
+    """Returns the erased files of a crate of the tree by their names, without the texts of LEFT_OUT."""
+    files = {it: text for it, text in sources_below(f"crates/{crate}/src").items() if f"{crate}/{it}" not in NO_TREE}
+    for pattern, instead in LEFT_OUT:
+        files = {it: re.sub(pattern, instead, text, flags=re.S) for it, text in files.items()}
+    return erased_files(crate, files, ())[0]
 
 
 def erased_all():

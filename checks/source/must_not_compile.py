@@ -23,7 +23,7 @@ FINE, DROPPED, TWICE, TYPES, FIELD = None, "linear-value-let-go", "borrow-e0382"
 # Functions: the name, the error, the signature and the body. Those of one list are compiled together, in this file.
 LIB = "src/lib.rt"
 OVER_TREES = """#![tactic(auto)]
-use bitmap_tree::{BitmapTree, HeldBlock, Permit};
+use bitmap_tree::{BitmapTree, BlankSeat, BlockSeat, HeldBlock, HiddenSeat, Permit};
 use cube_tree::{Cube, Solo, TreeStation, StillOut, Subcube};
 use floor_bitmap::{BitmapFloor, BitmapStation, HeldStation};
 use floors::Floor;
@@ -39,6 +39,7 @@ GOOD = [
     ("solo_closed", FINE, "(solo: Solo)", "solo.close();"),
     ("cube_passed_on", FINE, PASS_ON, "let StillOut { cube, missing: _ } = out; (cube, station)"),
     ("block_released", FINE, OF_BLOCK, "tree.release(held);"),
+    ("seat_without_a_bit_dropped", FINE, "(_seat: BlankSeat)", ""),
     ("block_of_a_station_released", FINE, OF_HELD + " -> BitmapStation", "floor.release(rt, held)"),
 ]
 DROPS = [
@@ -49,11 +50,19 @@ DROPS = [
     ("cube_of_a_refused_close_dropped", DROPPED, "(_out: StillOut)", ""),
     ("solo_dropped", DROPPED, "(_solo: Solo)", ""),
     ("block_dropped", DROPPED, "(_held: HeldBlock)", ""),
+    ("seat_of_a_block_dropped", DROPPED, "(held: HeldBlock)", "let (_region, _dim, _seat) = held.into_parts();"),
+    ("seat_that_may_have_bits_dropped", DROPPED, "(_seat: BlockSeat)", ""),
+    ("block_of_a_take_dropped", DROPPED, "(tree: &BitmapTree)", "let _taken = tree.take_quick(0, 0);"),
+    ("hidden_seat_dropped", DROPPED, "(_seat: HiddenSeat)", ""),
     ("permit_dropped", DROPPED, "(_permit: Permit)", ""),
     ("bitmap_floor_dropped", DROPPED, "(_floor: BitmapFloor)", ""),
     ("bitmap_station_dropped", DROPPED, "(_station: BitmapStation)", ""),
     ("held_station_dropped", DROPPED, "(_held: HeldStation)", ""),
     ("bitmap_station_of_a_release_dropped", DROPPED, OF_HELD, "let _station = floor.release(rt, held);"),
+]
+APART = [
+    ("hidden_seat_taken_apart", FIELD, "(seat: HiddenSeat)", "let HiddenSeat { seal: _ } = seat;"),
+    ("block_taken_apart", FIELD, "(held: HeldBlock)", "let HeldBlock { region: _, dim: _, seat: _ } = held;"),
 ]
 USES = [
     ("subcube_released_twice", TWICE, OF_SUBCUBE, f"{RELEASE} {RELEASE}"),
@@ -123,7 +132,8 @@ STEPS = [
              "match line.read(gate, saw) { Some(sealed) => Taken::Ended(sealed), None => Taken::EmptyNow }"),
             ("ends_on_an_early_pop", TYPES, "(saw: line_ring::SawEmpty)" + END, "Taken::Ended(saw)"),
             ("ends_on_nothing", "unknown-name", "()" + END, ENDED),
-            ("makes_an_end_of_its_own", "private-item", "()" + END, ENDED.replace("Ruled", "crate::line::Ruled")),
+            ("makes_an_end_of_its_own", "private-item", "(empty: line_ring::WasEmpty)" + END,
+             "Taken::Ended(crate::line::RuledEnd(empty))"),
         ],
         PUTS: [
             ("settles_before_it_pushes", TYPES, entry(), SETTLE("entered")[:-1]),
@@ -136,6 +146,9 @@ STEPS = [
             ("pushes_with_no_entry", TYPES, PUSH, PUSH_OF("()")),
             ("pushes_a_late_entry", TYPES, LATE_PUSH, PUSH_OF("late")),
             ("takes_an_entry_back", TYPES, entry() + " -> u64", "line.gate.undo(gate, entered)"),
+            ("ends_without_the_last_pop", TYPES, "(sealed: Sealed) -> RuledEnd", "let Sealed(()) = sealed; RuledEnd(())"),
+            ("ends_by_an_empty_ring_of_its_own", "unknown-name", "(sealed: Sealed) -> RuledEnd",
+             "let Sealed(()) = sealed; RuledEnd(line_ring::WasEmpty(()))"),
         ],
     },
     {
@@ -189,6 +202,7 @@ def main(words):
     build_below([caller(OF_TREES), caller(OF_SHOP), crates()["line_ruled"]], AFTER_GATE in words)
     rows = [
         Row("handles that are dropped", must_refuse, (OVER_TREES, OF_TREES, {LIB: GOOD + DROPS})),
+        Row("handles that are taken apart", must_refuse, (OVER_TREES, OF_TREES, {LIB: GOOD + APART})),
         Row("handles that are used twice", must_refuse, (OVER_TREES, OF_TREES, {LIB: GOOD + USES})),
         Row("takes under a lock", must_refuse, (OVER_LOCK, ["cube_tree"], {LIB: LOCKED})),
         *(Row(f"steps of the line, list {number}", must_refuse, ("", [], it)) for number, it in enumerate(STEPS, 1)),

@@ -1,5 +1,5 @@
 """Finds what documents name that is not there: a word in backticks that is nowhere in this repository, a path, and
-a relative link whose file or heading does not exist. It also compares the numbers of mutants that documents give.
+a relative link whose file or heading does not exist. It also compares numbers that documents give with what is counted.
 
 A word counts as there where a source, a script, a header or an example has it, or the name of a file. Of a page on
 calling the part above its example is read. CHANGELOG.md may name what an older version had, but no broken link.
@@ -19,6 +19,14 @@ COUNTS = (
     (("mutants", "*", "*.edit"), "docs/EVIDENCE.md", r"- `edits`, [^.]*the ([\d,]+) mutants"),
     (("rust", "pool", "mutants", "*.edit"), "docs/EVIDENCE.md", r"pool has ([\d,]+) mutants"),
 )
+# Tables of which a document says how many entries they have: the page, its sentence, the first line of the table, and a
+# pattern of an entry in the lines up to the next empty one.
+TABLES = (
+    ("docs/GUIDE.md", r"`cubejobs` has (\w+) commands", "| Command | It |", r"^\| \["),
+    ("docs/ARCHITECTURE.md", r"a quick take passes through (\w+) functions", "| Crate | Functions, each", r"(?<=, )`[\w:]+`|`[\w:]+`(?=,)"),
+    ("docs/ARCHITECTURE.md", r"functions of (\w+)\s+crates", "| Crate | Functions, each", r"^\| `\w+` \|"),
+)
+NUMBERS = "zero one two three four five six seven eight nine ten eleven twelve".split()
 # Words of the toolchain, of the system and of other libraries that nothing here uses, and parts of other languages.
 EXCUSED = {
     "rt": "tidy untested holes RT_JOBS", "Linux": "perf ulimit O_NONBLOCK madvise nice", "MPI": "MPI_Exscan",
@@ -98,12 +106,19 @@ SAMPLES = (
 
 
 def faults_of_counts():
-    """Yields each number of mutants in a document that is not that of the files."""
+    """Yields each number of mutants in a document that is not that of the files, and each wrong number of entries."""
     for folder, file, said in COUNTS:
         count = f"{len(glob.glob(path(*folder))):,}"
         found = re.search(said, read(file))
         if not found or found[1] != count:
             yield f"{file}: there are {count} mutants, and it says {found[1] if found else 'nothing'}"
+    for file, said, head, entry in TABLES:
+        text = read(file)
+        table = text.partition(head)[2].partition("\n\n")[0]
+        count = len(re.findall(entry, table, re.M))
+        found = re.search(said, text)
+        if not found or found[1] not in (str(count), (NUMBERS + [""] * count)[count]):
+            yield f"{file}: the table under '{head}' has {count} entries, and it says {found[1] if found else 'nothing'}"
 
 
 def main(words):

@@ -8,7 +8,7 @@ use crate::counter::{Counter, add};
 use crate::pass::read_words;
 use crate::processors::{LEVELS, is_held};
 use crate::summary::{FREE_PLACES, Occupancy};
-use bitmap_tree::{BitmapTree, BlockSeat};
+use bitmap_tree::{BitmapTree, BlankSeat};
 
 // Returns the largest dimension at which a count is not 0.
 fn largest_free(free: &[u64; FREE_PLACES]) -> Option<u32>
@@ -24,11 +24,11 @@ fn largest_free(free: &[u64; FREE_PLACES]) -> Option<u32>
 }
 
 /// Counts the free blocks and the held processors of a machine. Reads each word once, and returns
-/// the seat that knows what the loads found.
-pub fn occupancy(tree: &BitmapTree) -> (Occupancy, BlockSeat)
+/// the seat that knows what the loads found. It has no bit, so no
+/// bit changes.
+pub fn occupancy(tree: &BitmapTree) -> (Occupancy, BlankSeat)
     ensures table { result.1.table_id ≡ id_of tree.now }
     ensures counted { IsCountOf (dim_of tree.now) result.1.me.0.trail result.0 }
-    ensures no_slot { result.1.me.1 ≡ [] }
 {
     let n = tree.dim();
     let (top, mut seat) = tree.read_top();

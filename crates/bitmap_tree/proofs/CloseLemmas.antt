@@ -1,6 +1,8 @@
 -- The words at the end: those that are 0 are shut, the last one first.
 use Rattle.bitmap_tree.specs.declared.view.Size.{Size}
-use Rattle.bitmap_tree.specs.Layout.{HasNone, base_in}
+use Rattle.bitmap_tree.specs.InnerLayout.{IsBlank}
+use Rattle.bitmap_tree.specs.Layout.{HasNone, HasRun, base_in}
+use Rattle.bitmap_tree.specs.Seats.{HasNoBit}
 use Rattle.bitmap_tree.specs.Layout.{Known}
 use Rattle.bitmap_tree.specs.InnerSteps.{joined}
 use Rattle.std.proofs.Common.{inl, inr, ◌≡◌, ◌≢◌, ℕ, zero, suc, ◌+◌, ◌-◌, ◌*◌, ◌/◌, ◌%◌, ◌^◌, ◌<◌, ◌≤◌, w64, bit_and, List, [], ◌∷◌, length, length-set, get_or, set, sym, ◌∙◌, ap, subst, arith, ◌++◌}
@@ -112,6 +114,23 @@ merged_none m n both q nothing empty is =
     let runs : times q both.0.runs ≡ times q (m.0.runs ++ n.0.runs) = ap (λ (x : Known). times q x.0.runs) is in
     let other : times q n.0.runs ≡ times q (run (base_in n.0.runs) 0 ∷ []) = ap (times q) empty.0 in
     omega (arith, runs, other, total-append (has q) m.0.runs n.0.runs, nothing, has_none (base_in n.0.runs) q)
+
+-- a seat takes in another one that has a run
+pub merged_run : (m n both : Known) (r : Run) (q : ℕ)
+    → HasRun r n
+    → both ≡ (joined m.0 n.0, m.1)
+    → times q both.0.runs ≡ times q m.0.runs + has q r
+merged_run m n both r q one is =
+    let runs : times q both.0.runs ≡ times q (m.0.runs ++ n.0.runs) = ap (λ (x : Known). times q x.0.runs) is in
+    let other : times q n.0.runs ≡ times q (r ∷ []) = ap (times q) one.0 in
+    omega (arith, runs, other, total-append (has q) m.0.runs n.0.runs)
+
+-- a seat with an empty run has no bit
+pub blank_no_bit : (m : Known) → IsBlank m → HasNoBit m
+blank_no_bit m blank = (
+  λ q. let runs : times q m.0.runs ≡ times q (run blank.0 0 ∷ []) = ap (times q) blank.1.0 in omega (arith, runs, has_none blank.0 q),
+  blank.1.1,
+)
 
 -- ---- a word that is 0 is shut, and its unit given back
 

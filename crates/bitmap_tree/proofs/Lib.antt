@@ -9,3 +9,4 @@ pub mod FreeLemmas
 pub mod HalfLemmas
 pub mod SweepLemmas
 pub mod BlockLemmas
+mod SeatFields

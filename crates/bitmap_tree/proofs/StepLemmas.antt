@@ -18,7 +18,7 @@ use Rattle.bitmap_tree.specs.declared.view.Size.{Size}
 use Rattle.bitmap_tree.specs.Rule.{word_count, run, has}
 use Rattle.bitmap_tree.specs.InnerRule.{times, times_in, permits_in, IsOwned, IsShared, IsKept}
 use Rattle.bitmap_tree.specs.Layout.{Known}
-use Rattle.bitmap_tree.specs.InnerSteps.{note, after, enters, begins, loads, claims, opens_word, clears, tells_apart, opens_whole, shuts_whole, cut_first, first_over, first_under, lower_first, upper_first, with_lower, only_upper, glued, glued_runs, AreNext, Changes, Fills, Opens, Shuts, Loses, without_first, only_first, without_permit, with_permits_of, one_permit, joined, spent}
+use Rattle.bitmap_tree.specs.InnerSteps.{note, after, enters, begins, loads, claims, opens_word, clears, tells_apart, opens_whole, shuts_whole, cut_first, first_over, first_under, lower_first, upper_first, with_lower, only_upper, glued, glued_runs, AreNext, Changes, Fills, Opens, Shuts, Loses, without_first, only_first, without_permit, one_permit, joined, spent}
 use Rattle.bitmap_tree.proofs.RuleLemmas.{bit_was, few_runs, runs_apart, unit_shut, found_full}
 use Rattle.bitmap_tree.proofs.RuleLemmas as rule
 
@@ -375,14 +375,6 @@ deals n id v nothing enough =
     (λ has_permits none_is q. nothing q)
     (λ has_permits none_is q. has_none q)
 
-pub deals_more : (n : Size) (id : ℕ) (v : View)
-    → 1 < v.permits
-    → Splits (IsKept n) id v (without_permit v) (one_permit v)
-deals_more n id v several =
-    cuts n id v (without_permit v) (one_permit v) (λ q. omega (arith, has_none q)) (omega arith)
-    (λ has_permits none_is. absurd (omega (arith, several, none_is)))
-    (λ has_permits none_is q. has_none q)
-
 pub cuts_first : (n : Size) (id : ℕ) (v : View)
     → (0 < n.permits → 1 < v.permits)
     → Splits (IsKept n) id v (without_first v) (only_first v)
@@ -394,11 +386,6 @@ cuts_first n id v enough =
 pub merges : (n : Size) (id : ℕ) (v : View) (other : ℕ) (w : View)
     → Joins (IsKept n) id v other w (joined v w) spent
 merges n id v other w = joins n id v other w (joined v w) (λ q. total-append (has q) v.runs w.runs) refl
-
-pub adds_permit : (n : Size) (id : ℕ) (v : View) (other : ℕ) (w : View)
-    → ((q : ℕ) → times q w.runs ≡ 0)
-    → Joins (IsKept n) id v other w (with_permits_of v w) spent
-adds_permit n id v other w nothing = joins n id v other w (with_permits_of v w) (λ q. omega (arith, nothing q)) refl
 
 -- a run has the places of its two parts
 has_before : (q b L : ℕ) → q < b → has q (run b L) ≡ 0

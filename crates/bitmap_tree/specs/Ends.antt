@@ -1,6 +1,10 @@
 -- The words at the end, and what they say.
 use Rattle.std.specs.Prelude.{◌≡◌, ℕ, ◌+◌, ◌/◌, ◌<◌, ◌≤◌, List, length}
-use Rattle.bitmap_tree.specs.Rule.{word_count, bit_of}
+use Rattle.ghost_history.specs.Sums.{total}
+use Rattle.bitmap_tree.specs.declared.handles.HeldBlock.{HeldBlock}
+use Rattle.bitmap_tree.specs.Handles.{held_region}
+use Rattle.bitmap_tree.specs.Layout.{run_of}
+use Rattle.bitmap_tree.specs.Rule.{word_count, bit_of, has}
 
 -- The words of a state that meets the rule, where each place is held so often, and these words are
 -- opened.
@@ -29,6 +33,11 @@ IsClosed n held words =
     (opened : ℕ → ℕ) × IsLeftWith n held opened words
     × (((q : ℕ) → held q ≡ 0) → IsFresh words)
 
--- The words that a close leaves, with some number of holders for each place.
-abbrev pub IsEnded : ℕ → List ℕ → Type 0
-IsEnded n words = (held : ℕ → ℕ) × IsClosed n held words
+-- In how many of the held blocks a place is.
+abbrev pub times_held : ℕ → ℕ → List HeldBlock → ℕ
+times_held n q blocks = total (λ held. has q (run_of n (held_region held))) blocks
+
+-- The words that a close leaves. Each place is held at least by those of these blocks that have it.
+abbrev pub AreEnded : ℕ → List HeldBlock → List ℕ → Type 0
+AreEnded n blocks words =
+    (held : ℕ → ℕ) × IsClosed n held words × ((q : ℕ) → times_held n q blocks ≤ held q)

@@ -1,7 +1,6 @@
 -- What contracts say of a machine and of what is held in it.
 use Rattle.std.specs.Prelude.{◌≡◌, ℕ, ◌<◌, List}
 use Rattle.atomic_table.specs.Seated.{TableId}
-use Rattle.atomic_table.specs.declared.shared.Seat.{Seat}
 use Rattle.cube_shape.specs.declared.region.Region.{Region}
 use Rattle.bitmap_tree.specs.declared.handles.BitmapTree.{BitmapTree}
 use Rattle.bitmap_tree.specs.declared.handles.HeldBlock.{HeldBlock}
@@ -10,12 +9,11 @@ use Rattle.bitmap_tree.specs.declared.handles.Permit.{Permit}
 use Rattle.bitmap_tree.specs.declared.handles.Released.{Released}
 use Rattle.bitmap_tree.specs.Layout.{Known}
 use Rattle.bitmap_tree.specs.declared.view.Note.{Note}
-use Rattle.bitmap_tree.specs.declared.view.Run.{Run}
-use Rattle.bitmap_tree.specs.declared.view.View.{View}
+use Rattle.bitmap_tree.specs.Seats.{SeatOf}
 
 -- The identity of a machine: that of its table of words.
 abbrev pub id_of : BitmapTree → TableId
-id_of machine = machine.table.shared.table_id
+id_of machine = machine.bits.table.shared.table_id
 
 -- The dimension of a machine.
 abbrev pub dim_of : BitmapTree → ℕ
@@ -38,7 +36,7 @@ abbrev pub held_dim : HeldBlock → ℕ
 held_dim held = held.dim
 
 -- The seat that has it.
-abbrev pub held_seat : HeldBlock → Seat Run View
+abbrev pub held_seat : HeldBlock → SeatOf
 held_seat held = held.seat
 
 -- what is held is of this machine

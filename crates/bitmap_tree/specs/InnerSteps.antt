@@ -165,9 +165,6 @@ glued v w =
 abbrev pub without_permit : View → View
 without_permit v = record { runs = v.runs; trail = v.trail; permits = v.permits - 1 }
 
-abbrev pub with_permits_of : View → View → View
-with_permits_of v w = record { runs = v.runs; trail = v.trail; permits = v.permits + w.permits }
-
 abbrev pub one_permit : View → View
 one_permit v = record { runs = run 0 0 ∷ []; trail = []; permits = min v.permits 1 }
 

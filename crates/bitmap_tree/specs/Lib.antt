@@ -2,7 +2,9 @@ pub mod Alone
 pub mod Bounds
 pub mod Ends
 pub mod Handles
+pub mod HiddenSeats
 pub mod InnerEnds
+pub mod InnerHiddenSeat
 pub mod InnerLayout
 pub mod InnerMarks
 pub mod InnerRule
@@ -12,5 +14,6 @@ pub mod Layout
 pub mod Parts
 pub mod Reads
 pub mod Rule
+pub mod Seats
 pub mod Trail
 pub use Rattle.cube_shape.specs.Region.{AreApart, IsAligned}

@@ -2,14 +2,12 @@
 use Rattle.std.specs.Prelude.{◌≡◌, ℕ, ◌+◌, ◌%◌, ◌^◌, ◌≤◌}
 use Rattle.cube_shape.specs.declared.limits.TheConstants.{MAX_BITMAP_DIM}
 use Rattle.cube_shape.specs.declared.region.Region.{Region}
-use Rattle.atomic_table.specs.declared.shared.Seat.{Seat}
-use Rattle.bitmap_tree.specs.declared.view.Run.{Run}
-use Rattle.bitmap_tree.specs.declared.view.View.{View}
 use Rattle.bitmap_tree.specs.Rule.{word_count}
 use Rattle.bitmap_tree.specs.Layout.{HasRun, run_of}
+use Rattle.bitmap_tree.specs.Seats.{SeatOf}
 
 -- The seat has the bits of this block, which is aligned, in a machine of dimension n.
-pub record IsHeldBy (n : ℕ) (r : Region) (seat : Seat Run View) : Type 0 where
+pub record IsHeldBy (n : ℕ) (r : Region) (seat : SeatOf) : Type 0 where
   pub claimed : HasRun (run_of n r) seat.me
   pub begins : r.base % 2 ^ r.dim ≡ 0
   pub within : r.base + 2 ^ r.dim ≤ 2 ^ n

@@ -7,17 +7,23 @@ ghost use Rattle.bitmap_tree.specs.InnerTrail.{KeepsRight, IsSetIn, StepsOn, lef
 ghost use Rattle.bitmap_tree.specs.Trail.{WasClaimed, WasDisturbed, WasTaken};
 ghost use Rattle.bitmap_tree.specs.Handles.{id_of, dim_of, MayClaim};
 
-use crate::handles::{BitmapTree, Seat};
+use crate::handles::BitmapTree;
 use crate::layout::{block_at, first_word};
 use crate::mask::mask_of;
 use crate::search::TRIES;
+use crate::steps::BlockSeat;
 use crate::view::Run;
 use cube_shape::Region;
 
 impl BitmapTree {
     // Takes one block in its word. Where it does not, the number is 1 if it gave up after `tries`
     // lost exchanges, and else 0.
-    pub(crate) fn take_block(&self, seat: &mut Seat, block: Region, tries: u32) -> Result<(), u32>
+    pub(crate) fn take_block(
+        &self,
+        seat: &mut BlockSeat,
+        block: Region,
+        tries: u32,
+    ) -> Result<(), u32>
         requires table { seat.old.table_id ≡ id_of self.now }
         requires may { MayClaim self.now seat.old.me }
         requires block { IsIn (dim_of self.now) block.dim block }
@@ -64,7 +70,7 @@ impl BitmapTree {
     }
 
     // Opens the word under a unit that the seat has, and keeps one block of it.
-    fn open_under(&self, seat: &mut Seat, unit: Region, block: Region)
+    fn open_under(&self, seat: &mut BlockSeat, unit: Region, block: Region)
         requires table { seat.old.table_id ≡ id_of self.now }
         requires dim { unit.dim ≡ 6 * (block.dim / 6) + 6 }
         requires unit { HasRun (run_of (dim_of self.now) unit) seat.old.me
@@ -92,7 +98,7 @@ impl BitmapTree {
     }
 
     // Opens the words from a unit down to a block of it, which the seat then has.
-    pub(crate) fn descend(&self, seat: &mut Seat, unit: Region, block: Region)
+    pub(crate) fn descend(&self, seat: &mut BlockSeat, unit: Region, block: Region)
         requires table { seat.old.table_id ≡ id_of self.now }
         requires dim { unit.dim % 6 ≡ 0 }
         requires above { block.dim / 6 < unit.dim / 6 }
@@ -118,7 +124,7 @@ impl BitmapTree {
 
     // Opens the words from a unit down to its first block of dimension `k`, which the seat then
     // has.
-    pub(crate) fn descend_first(&self, seat: &mut Seat, unit: Region, k: u32) -> Region
+    pub(crate) fn descend_first(&self, seat: &mut BlockSeat, unit: Region, k: u32) -> Region
         requires table { seat.old.table_id ≡ id_of self.now }
         requires dim { unit.dim % 6 ≡ 0 }
         requires above { k / 6 < unit.dim / 6 }
@@ -140,7 +146,7 @@ impl BitmapTree {
 
     // Takes one block: in its word, and else from the unit around it in a level above, the lowest
     // first.
-    pub(crate) fn take_path(&self, seat: &mut Seat, block: Region) -> Result<(), u32>
+    pub(crate) fn take_path(&self, seat: &mut BlockSeat, block: Region) -> Result<(), u32>
         requires table { seat.old.table_id ≡ id_of self.now }
         requires may { MayClaim self.now seat.old.me }
         requires block { IsIn (dim_of self.now) block.dim block }
@@ -181,7 +187,7 @@ impl BitmapTree {
     }
 
     // Opens the words from a unit down to a block of it, unless the unit is the block.
-    fn descend_to(&self, seat: &mut Seat, unit: Region, block: Region, level: u32)
+    fn descend_to(&self, seat: &mut BlockSeat, unit: Region, block: Region, level: u32)
         requires table { seat.old.table_id ≡ id_of self.now }
         requires unit { HasTaken (dim_of self.now) unit.dim seat.old.me unit }
         requires block { IsIn (dim_of self.now) block.dim block }

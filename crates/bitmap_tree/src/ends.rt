@@ -1,13 +1,16 @@
 //! The end of a machine.
 ghost use Rattle.std.specs.Prelude.{◌≡◌, ℕ, ◌+◌, ◌<◌, ◌≤◌, length};
-ghost use Rattle.bitmap_tree.specs.Ends.{IsClosed, IsEnded, IsFresh, IsLeft};
-ghost use Rattle.bitmap_tree.specs.InnerEnds.{IsShutFrom};
-ghost use Rattle.bitmap_tree.specs.Handles.{dim_of, id_of, permits_of};
+ghost use Rattle.std.specs.List.{All};
+ghost use Rattle.bitmap_tree.specs.Ends.{times_held, AreEnded, IsClosed, IsLeft};
+ghost use Rattle.bitmap_tree.specs.InnerEnds.{AreClosedBy, IsShutFrom};
+ghost use Rattle.bitmap_tree.specs.Handles.{dim_of, held_region, id_of, IsHeldOf};
 ghost use Rattle.bitmap_tree.specs.InnerRule.{times};
-ghost use Rattle.bitmap_tree.specs.Rule.{word_count};
+ghost use Rattle.bitmap_tree.specs.Layout.{run_of};
+ghost use Rattle.bitmap_tree.specs.Rule.{has, word_count};
 
-use crate::handles::{BitmapTree, Seat};
+use crate::handles::{BitmapTree, HeldBlock};
 use crate::mask::mask_of;
+use crate::steps::BlockSeat;
 use cube_shape::MAX_BITMAP_DIM;
 
 // Shuts a word where it is 0, and clears the bit of its unit.
@@ -42,51 +45,65 @@ fn shut_all(n: u32, words: &mut Vec<u64>)
 }
 
 impl BitmapTree {
-    /// Ends the machine. Returns its words, once those that are 0 are shut.
+    /// Ends the machine, with these blocks held in it. Returns its words, once those that are 0 are
+    /// shut.
     ///
-    /// They are the words of a state that meets the rule. Where no bit of it is held, they are the
-    /// words of a machine in which nothing was ever taken.
-    pub fn close(self) -> Vec<u64>
-        ensures { IsEnded (dim_of self) result.items }
+    /// They are the words of a state that meets the rule, in which each block that comes in is
+    /// held. Where no bit is held, they are the words of a machine in which nothing was ever taken.
+    pub fn close(self, held: Vec<HeldBlock>) -> Vec<u64>
+        requires { All (IsHeldOf self) held.items }
+        ensures { AreEnded (dim_of self) held.items result.items }
     {
-        let BitmapTree {
-            table,
-            size,
-            marks: _,
-            spares: _,
-            mut room,
-        } = self;
-        let closed = table.close();
-        for word in 0..room.len() {
-            room[word] = closed.word(word);
-        }
-        closed.free();
-        shut_all(size.dim, &mut room);
-        room
+        let seat = self.gather_blocks(held);
+        self.close_by(seat)
     }
 
-    // Ends the machine, by the seat that has all its permits.
-    pub(crate) fn close_by(self, seat: Seat) -> Vec<u64>
+    // Ends the machine by a seat. Its words are those of a state in which the runs of the seat are
+    // held, and perhaps others.
+    pub(crate) fn close_by(self, seat: BlockSeat) -> Vec<u64>
         requires table { seat.table_id ≡ id_of self }
-        requires all { seat.me.0.permits ≡ permits_of self }
-        requires some { 0 < permits_of self }
-        requires nothing { (q : ℕ) → times q seat.me.0.runs ≡ 0 }
-        ensures count { length result.items ≡ word_count (dim_of self) }
-        ensures fresh { IsFresh result.items }
+        ensures { AreClosedBy self.size seat.me.0 result.items }
     {
         let BitmapTree {
-            table,
+            bits,
             size,
             marks: _,
             spares: _,
-            mut room,
+            room,
         } = self;
-        let closed = table.close_with(seat);
-        for word in 0..room.len() {
-            room[word] = closed.word(word);
+        let mut words = bits.end(seat, room);
+        shut_all(size.dim, &mut words);
+        words
+    }
+
+    // Makes one seat of those of held blocks.
+    fn gather_blocks(&self, mut held: Vec<HeldBlock>) -> BlockSeat
+        requires { All (IsHeldOf self.now) held.items }
+        ensures table { result.table_id ≡ id_of self.now }
+        ensures runs { (q : ℕ) → times q result.me.0.runs
+            ≡ times_held (dim_of self.now) q held.items }
+    {
+        let mut seat = self.enter(0);
+        while let Some(block) = held.pop() {
+            self.gather_block(&mut seat, block);
         }
-        closed.free();
-        shut_all(size.dim, &mut room);
-        room
+        held.destroy_empty();
+        seat
+    }
+
+    // Adds the run of a held block to those of a seat.
+    fn gather_block(&self, seat: &mut BlockSeat, block: HeldBlock)
+        requires table { seat.old.table_id ≡ id_of self.now }
+        requires held { IsHeldOf self.now block }
+        ensures table { seat.new.table_id ≡ id_of self.now }
+        ensures runs { (q : ℕ) → times q seat.new.me.0.runs ≡ times q seat.old.me.0.runs
+            + has q (run_of (dim_of self.now) (held_region block)) }
+    {
+        let HeldBlock {
+            region: _,
+            dim: _,
+            seat: other,
+        } = block;
+        self.merge(seat, other);
     }
 }

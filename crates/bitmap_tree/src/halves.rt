@@ -6,14 +6,15 @@ ghost use Rattle.bitmap_tree.specs.InnerLayout.{IsIn, both_halves};
 ghost use Rattle.bitmap_tree.specs.Trail.{OnlyLooked};
 ghost use Rattle.bitmap_tree.specs.Handles.{id_of, dim_of, held_region, held_trail, permits_of, IsHeldOf, MayClaim};
 
-use crate::handles::{BitmapTree, HeldBlock, Seat};
+use crate::handles::{BitmapTree, HeldBlock};
 use crate::layout::first_word;
+use crate::steps::BlockSeat;
 use cube_shape::Region;
 
 impl BitmapTree {
     // Opens the word under a unit that is to be split. All bits of the word are the seat's, so none
     // changes.
-    fn open_whole_unit(&self, seat: &mut Seat, region: Region)
+    fn open_whole_unit(&self, seat: &mut BlockSeat, region: Region)
         requires table { seat.old.table_id ≡ id_of self.now }
         requires region { HasRun (run_of (dim_of self.now) region) seat.old.me
             × IsIn (dim_of self.now) region.dim region }
@@ -90,7 +91,7 @@ impl BitmapTree {
     }
 
     // Shuts the word of a unit of which the seat has all bits, so that none changes.
-    fn shut_whole_unit(&self, seat: &mut Seat, region: Region)
+    fn shut_whole_unit(&self, seat: &mut BlockSeat, region: Region)
         requires table { seat.old.table_id ≡ id_of self.now }
         requires may { MayClaim self.now seat.old.me }
         requires both { HasRun (both_halves (dim_of self.now) region) seat.old.me }

@@ -19,9 +19,7 @@ mod marks;
 mod mask;
 mod opening;
 mod parts;
-mod permit_halves;
 mod permits;
-mod reading;
 mod releases;
 mod rule;
 mod scan;
@@ -34,5 +32,6 @@ mod view;
 
 pub use cube_shape::{MAX_BITMAP_DIM, Region};
 pub use handles::{BitmapTree, HeldBlock, Permit, Refused, Released};
-pub use parts::{BlockSeat, BlockView};
+pub use parts::BlockView;
+pub use steps::{BlankSeat, BlockSeat, HiddenSeat};
 pub use view::Run;

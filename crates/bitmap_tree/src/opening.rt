@@ -4,12 +4,12 @@ ghost use Rattle.bitmap_tree.specs.Rule.{word_count};
 ghost use Rattle.bitmap_tree.specs.InnerRule.{first_view};
 ghost use Rattle.bitmap_tree.specs.Handles.{id_of, dim_of, permits_of};
 
-use crate::handles::{BitmapTree, Seat};
+use crate::handles::BitmapTree;
 use crate::layout::words_of;
 use crate::marks::Marks;
 use crate::spares::Spares;
+use crate::steps::{BlockSeat, Words};
 use crate::view::Size;
-use atomic_table::Table;
 use cube_shape::MAX_BITMAP_DIM;
 use std::alloc::{AllocError, Global};
 
@@ -40,12 +40,16 @@ impl BitmapTree {
         ensures dim { IfOk result (λ made. dim_of made ≡ n) }
         ensures anyone { IfOk result (λ made. permits_of made ≡ 0) }
     {
-        let (machine, _seat) = BitmapTree::open_sized(alloc, Size { dim: n, permits: 0 })?;
+        let (machine, seat) = BitmapTree::open_sized(alloc, Size { dim: n, permits: 0 })?;
+        drop(seat.leave());
         Ok(machine)
     }
 
     // Opens a machine of this size. The seat has all its permits.
-    pub(crate) fn open_sized(alloc: Global, size: Size) -> Result<(BitmapTree, Seat), AllocError>
+    pub(crate) fn open_sized(
+        alloc: Global,
+        size: Size,
+    ) -> Result<(BitmapTree, BlockSeat), AllocError>
         requires { size.dim ≤ MAX_BITMAP_DIM }
         ensures size { IfOk result (λ made. made.0.size ≡ size) }
         ensures table { IfOk result (λ made. made.1.table_id ≡ id_of made.0) }
@@ -55,10 +59,10 @@ impl BitmapTree {
         words[0] = 0;
         let marks = marks_of(alloc, size.dim)?;
         let spares = Spares::open(alloc)?;
-        let (table, seat) = Table::of_words(alloc, &words, &size)?;
+        let (bits, seat) = Words::open(alloc, &words, &size)?;
         Ok((
             BitmapTree {
-                table,
+                bits,
                 size,
                 marks,
                 spares,

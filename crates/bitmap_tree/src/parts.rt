@@ -1,21 +1,20 @@
 //! The parts of what the calls return, for a caller that keeps them.
-ghost use Rattle.std.specs.Prelude.{◌≡◌, []};
+ghost use Rattle.std.specs.Prelude.{◌≡◌};
 ghost use Rattle.bitmap_tree.specs.Handles.{held_dim, held_region, held_seat, refused_trail, released_trail};
 ghost use Rattle.bitmap_tree.specs.Parts.{IsHeldBy};
 
-use crate::handles::{HeldBlock, Refused, Released, Seat};
+use crate::handles::{HeldBlock, Refused, Released};
+use crate::steps::{BlankSeat, BlockSeat};
 use crate::view::View;
 use cube_shape::Region;
-
-/// The seat that has a held block.
-pub type BlockSeat = Seat;
 
 /// What a seat knows: the bits that it has, and what its steps found and left.
 pub type BlockView = View;
 
 impl HeldBlock {
-    /// Takes a held block apart: the block, the dimension of its machine, and its seat.
-    pub fn into_parts(self) -> (Region, u32, Seat)
+    /// Takes a held block apart: the block, the dimension of its machine, and its seat,
+    /// which cannot be dropped.
+    pub fn into_parts(self) -> (Region, u32, BlockSeat)
         ensures region { result.0 ≡ held_region self }
         ensures dim { result.1 ≡ held_dim self }
         ensures seat { result.2 ≡ held_seat self }
@@ -26,7 +25,7 @@ impl HeldBlock {
     }
 
     /// Puts a held block together again.
-    pub fn of_parts(region: Region, dim: u32, seat: Seat) -> HeldBlock
+    pub fn of_parts(region: Region, dim: u32, seat: BlockSeat) -> HeldBlock
         requires held { IsHeldBy dim region seat }
         ensures region { held_region result ≡ region }
         ensures dim { held_dim result ≡ dim }
@@ -38,20 +37,18 @@ impl HeldBlock {
 
 impl Refused {
     /// Returns the seat of the take, which knows what its steps found.
-    pub fn into_seat(self) -> Seat
+    pub fn into_seat(self) -> BlankSeat
         ensures trail { result.me.0.trail ≡ refused_trail self }
-        ensures no_slot { result.me.1 ≡ [] }
     {
-        let Refused { contended: _, seat } = self;
+        let Refused { disturbed: _, seat } = self;
         seat
     }
 }
 
 impl Released {
     /// Returns the seat of the release, which knows what its steps changed.
-    pub fn into_seat(self) -> Seat
+    pub fn into_seat(self) -> BlankSeat
         ensures trail { result.me.0.trail ≡ released_trail self }
-        ensures no_slot { result.me.1 ≡ [] }
     {
         let Released { seat } = self;
         seat

@@ -1,6 +1,6 @@
 //! Machines with permits. A take spends a permit and a release returns it, so nothing is held once
 //! all permits are back.
-ghost use Rattle.std.specs.Prelude.{◌≡◌, ◌≢◌, ℕ, ◌+◌, ◌<◌, ◌≤◌, ◌^◌, [], length, slice_index, vec_capacity, List, IfOk, IfErr};
+ghost use Rattle.std.specs.Prelude.{◌≡◌, ◌≢◌, ℕ, ◌+◌, ◌<◌, ◌≤◌, ◌^◌, [], length, slice_index, true, false, vec_capacity, List, IfOk, IfErr};
 ghost use Rattle.std.specs.List.{All};
 ghost use Rattle.cube_shape.specs.Region.{IsAligned};
 ghost use Rattle.bitmap_tree.specs.InnerRule.{times};
@@ -9,10 +9,12 @@ ghost use Rattle.bitmap_tree.specs.Ends.{IsFresh};
 ghost use Rattle.bitmap_tree.specs.Alone.{HasNoBlock};
 ghost use Rattle.bitmap_tree.specs.Bounds.{release_steps, take_steps};
 ghost use Rattle.bitmap_tree.specs.Layout.{run_of};
+ghost use Rattle.bitmap_tree.specs.Seats.{HasNoBit};
 ghost use Rattle.bitmap_tree.specs.Trail.{AreRightSteps, IsAlone, WasClaimed, WasDisturbed, WasRefused, WasReleased};
 ghost use Rattle.bitmap_tree.specs.Handles.{id_of, dim_of, permits_of, held_region, held_trail, permit_trail, IsHeldByPermit, IsPermitOf};
 
-use crate::handles::{BitmapTree, HeldBlock, Permit, Seat};
+use crate::handles::{BitmapTree, HeldBlock, Permit};
+use crate::steps::BlockSeat;
 use crate::view::Size;
 use cube_shape::MAX_BITMAP_DIM;
 use std::alloc::{AllocError, Global};
@@ -26,7 +28,7 @@ impl BitmapTree {
         permit: Permit,
         k: u32,
         processor: u64,
-    ) -> Result<HeldBlock, (Permit, u32)>
+    ) -> Result<HeldBlock, (Permit, bool)>
         requires permit { IsPermitOf self.now permit }
         requires fits { k ≤ dim_of self.now }
         requires processor { processor < 2 ^ dim_of self.now }
@@ -36,9 +38,9 @@ impl BitmapTree {
         ensures back { IfErr result (λ refused. IsPermitOf self.now refused.0) }
         ensures claimed { IfOk result (λ held.
             WasClaimed (run_of (dim_of self.now) (held_region held)) (held_trail held)) }
-        ensures refused { IfErr result (λ refused. refused.1 ≡ 0
+        ensures refused { IfErr result (λ refused. refused.1 ≡ false
             → WasRefused (dim_of self.now) k (permit_trail refused.0)) }
-        ensures disturbed { IfErr result (λ refused. refused.1 ≢ 0
+        ensures disturbed { IfErr result (λ refused. refused.1 ≡ true
             → WasDisturbed (permit_trail refused.0)) }
         ensures alone { IfErr result (λ refused. (words : List ℕ)
             → IsAlone (slice_index words) (permit_trail refused.0)
@@ -54,7 +56,7 @@ impl BitmapTree {
         self.begin(&mut seat, self.word_near(processor));
         match self.take_by(&mut seat, k, processor) {
             Ok(region) => Ok(self.hold(seat, region)),
-            Err(contended) => Err((Permit { seat }, contended)),
+            Err(contended) => Err((Permit { seat }, contended != 0)),
         }
     }
 
@@ -109,9 +111,9 @@ impl BitmapTree {
     }
 
     // Deals the permits out.
-    fn deal_all(&self, mut seat: Seat, count: u32, permits: &mut Vec<Permit>)
+    fn deal_all(&self, mut seat: BlockSeat, count: u32, permits: &mut Vec<Permit>)
         requires table { seat.table_id ≡ id_of self.now }
-        requires nothing { (q : ℕ) → times q seat.me.0.runs ≡ 0 }
+        requires no_bit { HasNoBit seat.me }
         requires all { seat.me.0.permits ≡ count }
         requires empty { permits.old.items ≡ [] }
         requires room { count ≤ vec_capacity permits.old }
@@ -122,6 +124,7 @@ impl BitmapTree {
             let seat = self.deal(&mut seat);
             permits.push_reserved(Permit { seat });
         }
+        drop(seat.leave());
     }
 
     /// Ends a machine of which all permits have come back. Nothing is held, and its words are as at
@@ -138,7 +141,7 @@ impl BitmapTree {
     }
 
     // Adds a permit to a seat that has claimed nothing.
-    fn gather_one(&self, seat: &mut Seat, permit: Permit)
+    fn gather_one(&self, seat: &mut BlockSeat, permit: Permit)
         requires table { seat.old.table_id ≡ id_of self.now }
         requires permit { IsPermitOf self.now permit }
         requires nothing { (q : ℕ) → times q seat.old.me.0.runs ≡ 0 }
@@ -152,7 +155,7 @@ impl BitmapTree {
     }
 
     // Makes one seat of all permits.
-    fn gather_all(&self, mut permits: Vec<Permit>) -> Seat
+    fn gather_all(&self, mut permits: Vec<Permit>) -> BlockSeat
         requires of_machine { All (IsPermitOf self.now) permits.items }
         ensures table { result.table_id ≡ id_of self.now }
         ensures permits { result.me.0.permits ≡ length permits.items }

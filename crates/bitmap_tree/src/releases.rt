@@ -8,17 +8,19 @@ ghost use Rattle.bitmap_tree.specs.InnerTrail.{KeepsRight, HasBit, KeepsReleases
 ghost use Rattle.bitmap_tree.specs.Trail.{AreRightSteps, WasReleased};
 ghost use Rattle.bitmap_tree.specs.Handles.{id_of, dim_of, held_region, held_trail, released_trail, IsHeldOf, MayClaim};
 
-use crate::handles::{BitmapTree, HeldBlock, Released, Seat};
+use crate::handles::{BitmapTree, HeldBlock, Released};
 use crate::layout::{first_word, words_in};
 use crate::marks::has_half;
 use crate::mask::mask_of;
 use crate::spares::SPARES;
+use crate::steps::BlockSeat;
+use crate::takes::rest;
 use crate::view::Run;
 use cube_shape::Region;
 
 impl BitmapTree {
     // Clears the bits of a block: whether its word is then empty.
-    fn clear_region(&self, seat: &mut Seat, region: Region) -> bool
+    fn clear_region(&self, seat: &mut BlockSeat, region: Region) -> bool
         requires table { seat.old.table_id ≡ id_of self.now }
         requires may { MayClaim self.now seat.old.me }
         requires region { HasRun (run_of (dim_of self.now) region) seat.old.me
@@ -46,7 +48,7 @@ impl BitmapTree {
     }
 
     // Shuts a word of a level where it is empty: the unit over it, which the seat then has.
-    pub(crate) fn shut_unit(&self, seat: &mut Seat, level: u32, number: u32) -> Option<Region>
+    pub(crate) fn shut_unit(&self, seat: &mut BlockSeat, level: u32, number: u32) -> Option<Region>
         requires table { seat.old.table_id ≡ id_of self.now }
         requires may { MayClaim self.now seat.old.me }
         requires level { level < dim_of self.now / 6 }
@@ -81,7 +83,7 @@ impl BitmapTree {
     // Clears the bits of a block. A word that becomes empty stays open as the spare of its level,
     // and the spare before it is shut, if it is still empty. Returns the unit of that one, which
     // the seat then has.
-    fn release_once(&self, seat: &mut Seat, region: Region) -> Option<Region>
+    fn release_once(&self, seat: &mut BlockSeat, region: Region) -> Option<Region>
         requires table { seat.old.table_id ≡ id_of self.now }
         requires may { MayClaim self.now seat.old.me }
         requires region { HasRun (run_of (dim_of self.now) region) seat.old.me
@@ -115,7 +117,7 @@ impl BitmapTree {
     }
 
     // Releases a block, and each unit that becomes whole by it.
-    pub(crate) fn release_region(&self, seat: &mut Seat, region: Region)
+    pub(crate) fn release_region(&self, seat: &mut BlockSeat, region: Region)
         requires table { seat.old.table_id ≡ id_of self.now }
         requires may { MayClaim self.now seat.old.me }
         requires region { HasRun (run_of (dim_of self.now) region) seat.old.me
@@ -143,7 +145,7 @@ impl BitmapTree {
     }
 
     // Shuts the spare at a place of a level: whether it did.
-    fn shut_spare(&self, seat: &mut Seat, level: u32, place: u32) -> bool
+    fn shut_spare(&self, seat: &mut BlockSeat, level: u32, place: u32) -> bool
         requires table { seat.old.table_id ≡ id_of self.now }
         requires may { MayClaim self.now seat.old.me }
         requires level { level < dim_of self.now / 6 }
@@ -172,7 +174,7 @@ impl BitmapTree {
 
     // Shuts the spares of the levels below one, the lowest first: whether it shut any.
     #[inline(never)]
-    pub(crate) fn shut_spares(&self, seat: &mut Seat, level: u32) -> bool
+    pub(crate) fn shut_spares(&self, seat: &mut BlockSeat, level: u32) -> bool
         requires table { seat.old.table_id ≡ id_of self.now }
         requires may { MayClaim self.now seat.old.me }
         requires level { level ≤ dim_of self.now / 6 }
@@ -206,6 +208,6 @@ impl BitmapTree {
             mut seat,
         } = held;
         self.release_region(&mut seat, region);
-        Released { seat }
+        Released { seat: rest(seat) }
     }
 }

@@ -1,6 +1,6 @@
 //! The rule of the table, what its steps say, and how its seats are cut and joined.
 ghost use Rattle.bitmap_tree.specs.InnerRule.{IsKept, first_view};
-ghost use Rattle.bitmap_tree.specs.InnerSteps.{enters, begins, loads, claims, opens_word, clears, tells_apart, opens_whole, shuts_whole, without_first, only_first, without_permit, one_permit, with_permits_of, with_lower, only_upper, joined, glued, spent};
+ghost use Rattle.bitmap_tree.specs.InnerSteps.{enters, begins, loads, claims, opens_word, clears, tells_apart, opens_whole, shuts_whole, without_first, only_first, without_permit, one_permit, with_lower, only_upper, joined, glued, spent};
 
 use crate::view::{Run, Size, View};
 use atomic_table::{Join, Play, Split, TableRule};
@@ -118,15 +118,6 @@ pub struct Glue;
 
 impl Join<View> for Glue {
     ghost both = { glued };
-
-    ghost spent = { spent };
-}
-
-// The permits of a seat that has claimed nothing become those of another.
-pub struct AddPermit;
-
-impl Join<View> for AddPermit {
-    ghost both = { with_permits_of };
 
     ghost spent = { spent };
 }

@@ -7,14 +7,15 @@ ghost use Rattle.bitmap_tree.specs.InnerTrail.{KeepsRight, IsFullWord, StepsOn, 
 ghost use Rattle.bitmap_tree.specs.Trail.{WasClaimed, WasDisturbed, WasEachTaken, WasRefused};
 ghost use Rattle.bitmap_tree.specs.Handles.{id_of, dim_of, MayClaim};
 
-use crate::handles::{BitmapTree, Seat};
+use crate::handles::BitmapTree;
 use crate::layout::words_in;
 use crate::search::TRIES;
+use crate::steps::BlockSeat;
 use cube_shape::{MAX_BITMAP_DIM, Region};
 
 impl BitmapTree {
     // Takes a block of dimension `k` in the words of its level, one after another.
-    fn take_words(&self, seat: &mut Seat, k: u32) -> Result<Region, u32>
+    fn take_words(&self, seat: &mut BlockSeat, k: u32) -> Result<Region, u32>
         requires table { seat.old.table_id ≡ id_of self.now }
         requires may { MayClaim self.now seat.old.me }
         requires fits { k ≤ dim_of self.now }
@@ -50,7 +51,7 @@ impl BitmapTree {
     }
 
     // Takes a block of dimension `k`, and looks at each word of its level and of those above.
-    pub(crate) fn take_scanned(&self, seat: &mut Seat, k: u32) -> Result<Region, u32>
+    pub(crate) fn take_scanned(&self, seat: &mut BlockSeat, k: u32) -> Result<Region, u32>
         requires table { seat.old.table_id ≡ id_of self.now }
         requires may { MayClaim self.now seat.old.me }
         requires fits { k ≤ dim_of self.now }

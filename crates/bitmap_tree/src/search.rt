@@ -10,10 +10,11 @@ ghost use Rattle.bitmap_tree.specs.InnerTrail.{KeepsRight, IsFull, IsFullWord, S
 ghost use Rattle.bitmap_tree.specs.Trail.{WasClaimed, WasDisturbed};
 ghost use Rattle.bitmap_tree.specs.Handles.{id_of, dim_of, MayClaim};
 
-use crate::handles::{BitmapTree, Seat};
+use crate::handles::BitmapTree;
 use crate::layout::{block_at, first_word, words_in};
 use crate::marks::{has_half, word_in};
 use crate::mask::{WORD_DIM, fit_in, mask_of};
+use crate::steps::BlockSeat;
 use crate::view::Run;
 use cube_shape::Region;
 
@@ -110,7 +111,7 @@ impl BitmapTree {
     // found is clear. Returns what the exchange found.
     pub(crate) fn claim_in(
         &self,
-        seat: &mut Seat,
+        seat: &mut BlockSeat,
         word: u32,
         found: u64,
         offset: u32,
@@ -150,7 +151,7 @@ impl BitmapTree {
     #[inline(always)]
     pub(crate) fn take_in(
         &self,
-        seat: &mut Seat,
+        seat: &mut BlockSeat,
         number: u32,
         k: u32,
         tries: u32,
@@ -207,7 +208,13 @@ impl BitmapTree {
     // fewer than `TRIES` tries it ends at the first word in which it lost them. Where it takes
     // none, it says whether an exchange was lost.
     #[inline(always)]
-    fn take_marked(&self, seat: &mut Seat, k: u32, from: u32, tries: u32) -> Result<Region, bool>
+    fn take_marked(
+        &self,
+        seat: &mut BlockSeat,
+        k: u32,
+        from: u32,
+        tries: u32,
+    ) -> Result<Region, bool>
         requires table { seat.old.table_id ≡ id_of self.now }
         requires may { MayClaim self.now seat.old.me }
         requires fits { k ≤ dim_of self.now }
@@ -249,7 +256,13 @@ impl BitmapTree {
     // processor's word, and then goes over all groups. The top level is one word. Where it takes
     // none, it says whether an exchange was lost.
     #[inline(always)]
-    fn take_here(&self, seat: &mut Seat, k: u32, processor: u64, tries: u32) -> Result<Region, bool>
+    fn take_here(
+        &self,
+        seat: &mut BlockSeat,
+        k: u32,
+        processor: u64,
+        tries: u32,
+    ) -> Result<Region, bool>
         requires table { seat.old.table_id ≡ id_of self.now }
         requires may { MayClaim self.now seat.old.me }
         requires fits { k ≤ dim_of self.now }
@@ -282,7 +295,7 @@ impl BitmapTree {
     }
 
     // Takes a unit of a level in its open words, if it may have one.
-    fn take_unit(&self, seat: &mut Seat, level: u32, processor: u64) -> Option<Region>
+    fn take_unit(&self, seat: &mut BlockSeat, level: u32, processor: u64) -> Option<Region>
         requires table { seat.old.table_id ≡ id_of self.now }
         requires may { MayClaim self.now seat.old.me }
         requires level { level ≤ dim_of self.now / 6 }
@@ -303,7 +316,7 @@ impl BitmapTree {
 
     // Takes a unit of a level above, the lowest first, and in it the first block of dimension `k`.
     #[inline(never)]
-    fn take_above(&self, seat: &mut Seat, k: u32, processor: u64) -> Option<Region>
+    fn take_above(&self, seat: &mut BlockSeat, k: u32, processor: u64) -> Option<Region>
         requires table { seat.old.table_id ≡ id_of self.now }
         requires may { MayClaim self.now seat.old.me }
         requires fits { k ≤ dim_of self.now }
@@ -326,7 +339,7 @@ impl BitmapTree {
 
     // Takes the unit around a processor one level up, where it is free, and in it the first block
     // of dimension `k`.
-    fn take_own(&self, seat: &mut Seat, k: u32, processor: u64) -> Option<Region>
+    fn take_own(&self, seat: &mut BlockSeat, k: u32, processor: u64) -> Option<Region>
         requires table { seat.old.table_id ≡ id_of self.now }
         requires may { MayClaim self.now seat.old.me }
         requires fits { k ≤ dim_of self.now }
@@ -352,7 +365,7 @@ impl BitmapTree {
     // Takes a block of dimension `k` after a lost exchange: in a unit of its own. If that is not
     // free, it goes over the words of its level again, and at last to the levels above.
     #[cold]
-    fn take_elsewhere(&self, seat: &mut Seat, k: u32, processor: u64) -> Option<Region>
+    fn take_elsewhere(&self, seat: &mut BlockSeat, k: u32, processor: u64) -> Option<Region>
         requires table { seat.old.table_id ≡ id_of self.now }
         requires may { MayClaim self.now seat.old.me }
         requires fits { k ≤ dim_of self.now }
@@ -376,7 +389,7 @@ impl BitmapTree {
 
     // Takes a block of dimension `k` by a seat with an empty run: in its level, and else in a unit
     // of a level above.
-    pub(crate) fn take_region(&self, seat: &mut Seat, k: u32, processor: u64) -> Option<Region>
+    pub(crate) fn take_region(&self, seat: &mut BlockSeat, k: u32, processor: u64) -> Option<Region>
         requires table { seat.old.table_id ≡ id_of self.now }
         requires may { MayClaim self.now seat.old.me }
         requires fits { k ≤ dim_of self.now }

@@ -5,13 +5,14 @@ ghost use Rattle.bitmap_tree.specs.InnerLayout.{IsBlank, IsIn, Grows};
 ghost use Rattle.bitmap_tree.specs.InnerTrail.{KeepsRight, HasBit, left_by};
 ghost use Rattle.bitmap_tree.specs.Handles.{id_of, dim_of, MayClaim};
 
-use crate::handles::{BitmapTree, Seat};
+use crate::handles::BitmapTree;
 use crate::layout::{first_word, words_in};
+use crate::steps::BlockSeat;
 use cube_shape::Region;
 
 impl BitmapTree {
     // Shuts a word of a level where it is empty, and releases its unit.
-    fn shut_empty(&self, seat: &mut Seat, level: u32, number: u32)
+    fn shut_empty(&self, seat: &mut BlockSeat, level: u32, number: u32)
         requires table { seat.old.table_id ≡ id_of self.now }
         requires may { MayClaim self.now seat.old.me }
         requires level { level < dim_of self.now / 6 }
@@ -39,7 +40,7 @@ impl BitmapTree {
     }
 
     // Shuts the empty ones of these words of a level.
-    fn sweep_level(&self, seat: &mut Seat, level: u32, first: u32, count: u32)
+    fn sweep_level(&self, seat: &mut BlockSeat, level: u32, first: u32, count: u32)
         requires table { seat.old.table_id ≡ id_of self.now }
         requires may { MayClaim self.now seat.old.me }
         requires level { level < dim_of self.now / 6 }
@@ -62,7 +63,7 @@ impl BitmapTree {
     }
 
     // Shuts the empty words under a block, of the levels below one: the lowest level first.
-    pub(crate) fn sweep(&self, seat: &mut Seat, block: Region, limit: u32)
+    pub(crate) fn sweep(&self, seat: &mut BlockSeat, block: Region, limit: u32)
         requires table { seat.old.table_id ≡ id_of self.now }
         requires may { MayClaim self.now seat.old.me }
         requires block { IsIn (dim_of self.now) block.dim block }

@@ -1,5 +1,5 @@
 //! Takes: by the marks, with evidence where they refuse, and of one block that is named.
-ghost use Rattle.std.specs.Prelude.{◌≡◌, ℕ, ◌+◌, ◌*◌, ◌/◌, ◌%◌, ◌^◌, ◌<◌, ◌≤◌, ◌-◌, ◌≢◌, IfSome, IfNone, IfOk, IfErr, length, slice_index, List};
+ghost use Rattle.std.specs.Prelude.{◌≡◌, ℕ, ◌+◌, ◌*◌, ◌/◌, ◌%◌, ◌^◌, ◌<◌, ◌≤◌, ◌-◌, ◌≢◌, IfSome, IfNone, IfOk, IfErr, length, slice_index, List, true, false};
 ghost use Rattle.cube_shape.specs.Region.{IsAligned};
 ghost use Rattle.bitmap_tree.specs.Alone.{HasNoBlock, IsInUse};
 ghost use Rattle.bitmap_tree.specs.Bounds.{block_steps, quick_steps, take_steps};
@@ -10,13 +10,35 @@ ghost use Rattle.bitmap_tree.specs.InnerTrail.{KeepsRight};
 ghost use Rattle.bitmap_tree.specs.Trail.{AreRightSteps, IsAlone, WasBlockTaken, WasClaimed, WasDisturbed, WasRefused};
 ghost use Rattle.bitmap_tree.specs.Handles.{id_of, dim_of, held_region, held_trail, refused_trail, permits_of, IsHeldOf, MayClaim};
 
-use crate::handles::{BitmapTree, HeldBlock, Refused, Seat};
+use crate::handles::{BitmapTree, HeldBlock, Refused};
+use crate::steps::{BlankSeat, BlockSeat};
 use cube_shape::Region;
+
+// Lets a seat with an empty run go.
+pub(crate) fn rest(seat: BlockSeat) -> BlankSeat
+    requires { IsBlank seat.me }
+    ensures { result ≡ seat }
+{
+    seat.leave()
+}
+
+// Makes a refusal of a seat with an empty run, and of the number of words that it gave up.
+fn refuse(seat: BlockSeat, contended: u32) -> Refused
+    requires { IsBlank seat.me }
+    ensures trail { refused_trail result ≡ seat.me.0.trail }
+    ensures quiet { result.disturbed ≡ false → contended ≡ 0 }
+    ensures disturbed { result.disturbed ≡ true → contended ≢ 0 }
+{
+    Refused {
+        disturbed: contended != 0,
+        seat: rest(seat),
+    }
+}
 
 impl BitmapTree {
     // Takes a block by the marks, by a seat with an empty run.
     #[inline(always)]
-    fn take_quickly(&self, seat: &mut Seat, k: u32, processor: u64) -> Option<Region>
+    fn take_quickly(&self, seat: &mut BlockSeat, k: u32, processor: u64) -> Option<Region>
         requires table { seat.old.table_id ≡ id_of self.now }
         requires may { MayClaim self.now seat.old.me }
         requires fits { k ≤ dim_of self.now }
@@ -40,32 +62,34 @@ impl BitmapTree {
 
     /// Takes an aligned block of dimension `k`, by a search that begins near a processor.
     ///
-    /// It passes words with a mark by, so where it takes none, nothing is said.
-    pub fn take_quick(&self, k: u32, processor: u64) -> Option<HeldBlock>
+    /// It passes words with a mark by, so a refusal says only what its steps found and left.
+    pub fn take_quick(&self, k: u32, processor: u64) -> Result<HeldBlock, BlankSeat>
         requires anyone { permits_of self.now ≡ 0 }
         requires fits { k ≤ dim_of self.now }
         requires processor { processor < 2 ^ dim_of self.now }
-        ensures of_machine { IfSome result (IsHeldOf self.now) }
-        ensures aligned { IfSome result (λ held. IsAligned (dim_of self.now) (held_region held)) }
-        ensures dimension { IfSome result (λ held. (held_region held).dim ≡ k) }
-        ensures claimed { IfSome result (λ held.
+        ensures of_machine { IfOk result (IsHeldOf self.now) }
+        ensures aligned { IfOk result (λ held. IsAligned (dim_of self.now) (held_region held)) }
+        ensures dimension { IfOk result (λ held. (held_region held).dim ≡ k) }
+        ensures claimed { IfOk result (λ held.
             WasClaimed (run_of (dim_of self.now) (held_region held)) (held_trail held)) }
-        ensures steps { IfSome result (λ held.
+        ensures steps { IfOk result (λ held.
             AreRightSteps (dim_of self.now) (held_trail held)) }
-        ensures few { IfSome result (λ held.
+        ensures few { IfOk result (λ held.
             length (held_trail held) ≤ quick_steps (dim_of self.now)) }
+        ensures few_refused { IfErr result (λ seat.
+            length seat.me.0.trail ≤ quick_steps (dim_of self.now)) }
     {
         let mut seat = self.enter(self.word_near(processor));
         match self.take_quickly(&mut seat, k, processor) {
-            Some(region) => Some(self.hold(seat, region)),
-            None => None,
+            Some(region) => Ok(self.hold(seat, region)),
+            None => Err(rest(seat)),
         }
     }
 
     // Takes a block after the marks gave none. It shuts the empty words below the level of the
     // dimension. Then it looks at each word of this level and of those above.
     #[cold]
-    fn take_exactly(&self, seat: &mut Seat, k: u32) -> Result<Region, u32>
+    fn take_exactly(&self, seat: &mut BlockSeat, k: u32) -> Result<Region, u32>
         requires table { seat.old.table_id ≡ id_of self.now }
         requires may { MayClaim self.now seat.old.me }
         requires fits { k ≤ dim_of self.now }
@@ -97,7 +121,12 @@ impl BitmapTree {
 
     // Takes a block: by the marks, and else by a look at each word.
     #[inline(always)]
-    pub(crate) fn take_by(&self, seat: &mut Seat, k: u32, processor: u64) -> Result<Region, u32>
+    pub(crate) fn take_by(
+        &self,
+        seat: &mut BlockSeat,
+        k: u32,
+        processor: u64,
+    ) -> Result<Region, u32>
         requires table { seat.old.table_id ≡ id_of self.now }
         requires may { MayClaim self.now seat.old.me }
         requires fits { k ≤ dim_of self.now }
@@ -125,7 +154,7 @@ impl BitmapTree {
 
     // Makes a held block of a block that a seat has taken.
     #[inline(always)]
-    pub(crate) fn hold(&self, seat: Seat, region: Region) -> HeldBlock
+    pub(crate) fn hold(&self, seat: BlockSeat, region: Region) -> HeldBlock
         requires table { seat.table_id ≡ id_of self.now }
         requires may { MayClaim self.now seat.me }
         requires taken { HasTaken (dim_of self.now) region.dim seat.me region }
@@ -157,9 +186,9 @@ impl BitmapTree {
         ensures dimension { IfOk result (λ held. (held_region held).dim ≡ k) }
         ensures claimed { IfOk result (λ held.
             WasClaimed (run_of (dim_of self.now) (held_region held)) (held_trail held)) }
-        ensures refused { IfErr result (λ refused. refused.contended ≡ 0
+        ensures refused { IfErr result (λ refused. refused.disturbed ≡ false
             → WasRefused (dim_of self.now) k (refused_trail refused)) }
-        ensures disturbed { IfErr result (λ refused. refused.contended ≢ 0
+        ensures disturbed { IfErr result (λ refused. refused.disturbed ≡ true
             → WasDisturbed (refused_trail refused)) }
         ensures alone { IfErr result (λ refused. (words : List ℕ)
             → IsAlone (slice_index words) (refused_trail refused)
@@ -174,13 +203,13 @@ impl BitmapTree {
         let mut seat = self.enter(self.word_near(processor));
         match self.take_by(&mut seat, k, processor) {
             Ok(region) => Ok(self.hold(seat, region)),
-            Err(contended) => Err(Refused { contended, seat }),
+            Err(contended) => Err(refuse(seat, contended)),
         }
     }
 
     // Takes one block by a seat with an empty run: a second time once the empty words under it are
     // shut.
-    fn take_named(&self, seat: &mut Seat, block: Region) -> Result<(), u32>
+    fn take_named(&self, seat: &mut BlockSeat, block: Region) -> Result<(), u32>
         requires table { seat.old.table_id ≡ id_of self.now }
         requires may { MayClaim self.now seat.old.me }
         requires block { IsIn (dim_of self.now) block.dim block }
@@ -223,9 +252,9 @@ impl BitmapTree {
         ensures region { IfOk result (λ held. held_region held ≡ block) }
         ensures claimed { IfOk result (λ held.
             WasClaimed (run_of (dim_of self.now) block) (held_trail held)) }
-        ensures refused { IfErr result (λ refused. refused.contended ≡ 0
+        ensures refused { IfErr result (λ refused. refused.disturbed ≡ false
             → WasBlockTaken (dim_of self.now) block (refused_trail refused)) }
-        ensures disturbed { IfErr result (λ refused. refused.contended ≢ 0
+        ensures disturbed { IfErr result (λ refused. refused.disturbed ≡ true
             → WasDisturbed (refused_trail refused)) }
         ensures alone { IfErr result (λ refused. (words : List ℕ)
             → IsAlone (slice_index words) (refused_trail refused)
@@ -240,7 +269,7 @@ impl BitmapTree {
         let mut seat = self.enter(self.word_near(block.base));
         match self.take_named(&mut seat, block) {
             Ok(()) => Ok(self.hold(seat, block)),
-            Err(contended) => Err(Refused { contended, seat }),
+            Err(contended) => Err(refuse(seat, contended)),
         }
     }
 }

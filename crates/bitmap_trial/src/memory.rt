@@ -21,19 +21,19 @@ fn tell<R: Print>(rt: &R, call: &str, back: &[u64]) -> io::Result<()> {
 }
 
 // Takes a block and releases it, and closes the machine.
-fn use_machine<R: Print>(rt: &R, tree: BitmapTree) -> io::Result<()>
+fn use_machine<R: Print>(rt: &R, alloc: Global, tree: BitmapTree) -> io::Result<()>
     requires anyone { permits_of tree ≡ 0 }
     requires dim { dim_of tree ≡ 10 }
 {
     let taken = match tree.take_quick(5, 100) {
-        Some(held) => {
+        Ok(held) => {
             let base = held.region().base;
             tree.release(held);
             tell(rt, "take_quick", &[base])
         }
-        None => tell(rt, "take_quick", &[]),
+        Err(_seat) => tell(rt, "take_quick", &[]),
     };
-    let words = tree.close();
+    let words = tree.close(Vec::new(alloc));
     taken?;
     tell(rt, "close", &[words.len() as u64])
 }
@@ -43,7 +43,7 @@ fn open<R: Print>(rt: &R, alloc: Global) -> io::Result<u64> {
     match BitmapTree::open(alloc, DIM) {
         Ok(tree) => {
             let told = tell(rt, "open", &[tree.dim() as u64]);
-            let used = use_machine(rt, tree);
+            let used = use_machine(rt, alloc, tree);
             told?;
             used?;
             Ok(1)

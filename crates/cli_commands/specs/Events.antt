@@ -53,8 +53,3 @@ abbrev pub run_in : {M : Type 0}
     → Result (RunEnd M) (AnswerError M)
 run_in (Ok run) = Ok run.end
 run_in (Err error) = Err error
-
--- The result of a command without its events.
-abbrev pub answer_in : {A : Type 0} → Result A Fault → Result (Unit {0}) Fault
-answer_in (Ok events) = Ok tt
-answer_in (Err fault) = Err fault

@@ -10,7 +10,7 @@ ghost use Rattle.jobs_csv.specs.Lanes.{AreLanes, ReturnsLanes};
 ghost use Rattle.jobs_csv.specs.declared.fault.Fault.{Fault as TheFault};
 ghost use Rattle.cli_args.specs.CommandLine.{AreShopSizes, IsWithinLimits};
 ghost use Rattle.cli_commands.specs.Answer.{IsAnswer, IsMetBeforeWriting, IsShopFault};
-ghost use Rattle.cli_commands.specs.Events.{HasEvents, answer_in, run_in};
+ghost use Rattle.cli_commands.specs.Events.{HasEvents, run_in};
 ghost use Rattle.cli_commands.specs.FileRun.{HasSpentLane, IsShopRun, ReturnsRun};
 ghost use Rattle.cli_commands.specs.Inner.Recording.{fault_of_record};
 ghost use Rattle.cli_commands.specs.Program.{IsAnswerTo, IsFaultOf, ShowsProgress};

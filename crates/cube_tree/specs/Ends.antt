@@ -3,10 +3,7 @@ use Rattle.std.specs.Prelude.{◌≡◌, ℕ, ◌+◌, ◌^◌, ◌<◌, ◌↔�
 use Rattle.status_word.specs.Word.{IsSet}
 use Rattle.tree_steps.specs.Rule.{times}
 use Rattle.cube_tree.specs.declared.handles.TreeStation.{TreeStation}
-use Rattle.tree_steps.specs.Tree.{id_of}
-use Rattle.cube_tree.specs.declared.handles.Cube.{Cube}
 use Rattle.cube_tree.specs.declared.handles.FreeMachine.{FreeMachine}
-use Rattle.cube_tree.specs.declared.handles.RetirementReader.{RetirementReader}
 use Rattle.cube_tree.specs.Handles.{station_entry}
 
 -- Each station below the count is in the list.
@@ -24,21 +21,6 @@ IsMissing count roll missing = (s : ℕ) → IsSet missing s ↔ ((s < count) ×
 -- A load of the roll found the bit of each station below the count.
 abbrev pub IsWhole : ℕ → ℕ → Type 0
 IsWhole count roll = (s : ℕ) → s < count → IsSet roll s
-
--- The reader loads the roll of this cube.
-abbrev pub IsReaderOf : Cube → RetirementReader → Type 0
-IsReaderOf cube reader = reader.seat.table_id ≡ id_of cube.tree
-
--- What the loads of a reader found, the newest first.
-abbrev pub reader_loads : RetirementReader → List ℕ
-reader_loads reader = reader.seat.me.0.loads
-
--- The last load of the reader found that no station below the count is missing.
-pub record FindsAllRetired (count : ℕ) (reader : RetirementReader) : Type 0 where
-  pub roll : ℕ
-  pub earlier : List ℕ
-  pub loads : reader_loads reader ≡ roll ∷ earlier
-  pub none : IsMissing count roll 0
 
 -- The dimension of a closed machine.
 abbrev pub machine_dim : FreeMachine → ℕ

@@ -39,7 +39,7 @@ impl TreeStation {
 }
 
 // Returns the stations below the count whose bit is clear.
-pub(crate) fn missing_in(roll: u64, stations: u32) -> u64
+fn missing_in(roll: u64, stations: u32) -> u64
     requires { stations ≤ MAX_STATIONS }
     ensures { IsMissing stations roll result }
 {

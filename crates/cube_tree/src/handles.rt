@@ -64,14 +64,6 @@ pub struct FreeMachine {
     pub(crate) seat: Seat,
 }
 
-/// A reader of the roll of a cube, which says which stations have retired. It is no station, and it
-/// can be dropped.
-#[derive(Drop)]
-pub struct RetirementReader {
-    pub(crate) seat: Seat,
-    ghost own: { IsBare seat.me },
-}
-
 /// A cube that could not be closed, with the stations whose bit the load of the roll found clear.
 pub struct StillOut {
     pub cube: Cube,

@@ -11,7 +11,6 @@ mod comparison;
 mod ends;
 mod handles;
 mod opening;
-mod reading;
 mod refusal;
 mod refused;
 mod search;
@@ -22,9 +21,7 @@ mod takes;
 mod tries;
 
 pub use comparison::apart;
-pub use handles::{
-    Cube, FreeMachine, RetiredStation, RetirementReader, StillOut, Subcube, TreeStation,
-};
+pub use handles::{Cube, FreeMachine, RetiredStation, StillOut, Subcube, TreeStation};
 pub use refusal::Refusal;
 pub use refused::{CubeRefused, SoloRefused};
 pub use solo::Solo;

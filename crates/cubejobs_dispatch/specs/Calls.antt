@@ -24,6 +24,7 @@ pub record HasSubmitted (payload dim : ℕ) (answer : SubmitAnswer) (old new : L
   pub same : arc_value new.common ≡ arc_value old.common
   pub submits : Submits payload dim old.lane.known submitted new.lane.known
   pub keeps : SubmitKeeps old.lane.known new.lane.known
+  pub deeds : new.lane.deeds ≡ old.lane.deeds
 
 -- The worker tried to take a job from this lane, of the same lanes, and this is the answer.
 pub record HasTaken (lane : ℕ) (answer : JobAnswer) (old new : WorkerSide) : Type 0 where
@@ -34,6 +35,7 @@ pub record HasTaken (lane : ℕ) (answer : JobAnswer) (old new : WorkerSide) : T
   pub takes : Takes (take_of lane old.worker.known) taken (take_of lane new.worker.known)
   pub few : (take_of lane new.worker.known).steps
       ≤ (take_of lane old.worker.known).steps + call_steps
+  pub deeds : new.worker.deeds ≡ old.worker.deeds
 
 -- The worker went round all lanes for a job, from this one on, and this is the answer.
 pub record HasTakenAny (from : ℕ) (answer : JobAnswer) (old new : WorkerSide) : Type 0 where
@@ -42,6 +44,7 @@ pub record HasTakenAny (from : ℕ) (answer : JobAnswer) (old new : WorkerSide) 
   pub same : arc_value new.common ≡ arc_value old.common
   pub takes : TakesAny (lane_count old) from old.worker.known taken new.worker.known
   pub keeps : TakeAnyKeeps (lane_count old) old.worker.known new.worker.known
+  pub deeds : new.worker.deeds ≡ old.worker.deeds
 
 -- The worker looked for a job in this lane, and this is the answer.
 pub record HasLooked (lane : ℕ) (answer : LookAnswer) (old new : WorkerSide) : Type 0 where
@@ -50,3 +53,4 @@ pub record HasLooked (lane : ℕ) (answer : LookAnswer) (old new : WorkerSide) :
   pub same : arc_value new.common ≡ arc_value old.common
   pub only : ChangesOnly lane old.worker.known new.worker.known
   pub looks : Looks (take_of lane old.worker.known) looked (take_of lane new.worker.known)
+  pub deeds : new.worker.deeds ≡ old.worker.deeds

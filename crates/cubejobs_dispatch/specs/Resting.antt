@@ -1,6 +1,8 @@
 -- What a handle of a worker has, whether the worker lies down or not.
-use Rattle.std.specs.Prelude.{◌≡◌, ℕ, ◌<◌, Option, Some, None, IfSome}
+use Rattle.std.specs.Prelude.{◌≡◌, ℕ, ◌<◌, false, Option, Some, None, IfSome, List}
 use Rattle.std.specs.Arc.{arc_value}
+use Rattle.wake_calls.specs.declared.deed.WakeDeed.{WakeDeed}
+use Rattle.job_lanes.specs.Deeds.{and_given, given_in, has_call}
 use Rattle.job_lanes.specs.declared.finder.At.{At}
 use Rattle.job_lanes.specs.declared.finder.At.TheVariants.{Idle, Parked}
 use Rattle.job_lanes.specs.declared.finder.Found.{Found}
@@ -17,12 +19,13 @@ use Rattle.cubejobs_dispatch.specs.Finds.{find_answer, woken_number}
 use Rattle.cubejobs_dispatch.specs.Sleeps.{found_by, FindsNow, Stops}
 
 -- A worker: its lanes, the job that it keeps for the next call, what it is known to have done, and
--- where it is.
+-- where it is. The deeds are what it did for other workers and with its calls, the latest first.
 pub record Resting : Type 0 where
   pub common : Common
   pub kept : Option KeptJob
   pub known : WorkerRecord
   pub at : At
+  pub deeds : List WakeDeed
 
 -- A worker that may lie down.
 abbrev pub resting_of : SleeperSide → Resting
@@ -31,11 +34,12 @@ resting_of side = record {
   kept = side.kept;
   known = side.finder.known;
   at = side.finder.at;
+  deeds = side.finder.deeds;
 }
 
 -- The worker of a handle, if it is one.
 abbrev pub resting_in : Option State → Option Resting
-resting_in (Some (Worker side)) = Some (record { common = arc_value side.common; kept = None; known = side.worker.known; at = Idle })
+resting_in (Some (Worker side)) = Some (record { common = arc_value side.common; kept = None; known = side.worker.known; at = Idle; deeds = side.worker.deeds })
 resting_in (Some (Sleeper side)) = Some (resting_of side)
 resting_in other = None
 
@@ -61,16 +65,19 @@ lanes_at worker = worker.common.lanes.plan.sizes.lanes
 abbrev pub workers_at : Resting → ℕ
 workers_at worker = worker.common.lanes.plan.sizes.workers
 
--- The worker looked for a job in its lanes, or went on where its last call stopped, and this is the
--- answer. A worker that was given its token is one of these lanes.
-pub record HasFound (answer : FindAnswer) (old new : Resting) : Type 0 where
+-- The worker looked for a job in its lanes from this one on, or went on where its last call had
+-- stopped. This is the answer. The worker that it names is one of these lanes: that one was given
+-- its token, and no other. A call for which the worker got up is out of its mailbox.
+pub record HasFound (from : ℕ) (answer : FindAnswer) (old new : Resting) : Type 0 where
   pub found : Found
   pub woken : Option ℕ
   pub answer_is : answer ≡ find_answer found (woken_number woken)
   pub same : new.common ≡ old.common
-  pub finds : FindsNow old.kept (lanes_at old) old.known (found_by new.kept found) new.known
+  pub finds : FindsNow old.kept (lanes_at old) from old.known (found_by new.kept found) new.known
   pub stops : Stops new.kept found new.at
   pub of_lanes : IfSome woken (λ number. number < workers_at old)
+  pub given : given_in new.deeds ≡ and_given woken (given_in old.deeds)
+  pub calls : has_call old.deeds ≡ false → has_call new.deeds ≡ false
 
 -- The worker parks until it has its token.
 abbrev pub Parks : Resting → Type 0

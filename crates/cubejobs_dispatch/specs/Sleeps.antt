@@ -21,10 +21,11 @@ abbrev pub found_by : Option KeptJob → Found → Found
 found_by None found = found
 found_by (Some one) found = kept_found one
 
--- A worker that keeps no job finds this in the lanes. One that keeps a job looks in no lane.
-abbrev pub FindsNow : Option KeptJob → ℕ → WorkerRecord → Found → WorkerRecord → Type 0
-FindsNow None lanes old found new = Finds lanes (TRIES * find_steps) old found new
-FindsNow (Some one) lanes old found new = (found ≡ kept_found one) × (new ≡ old)
+-- A worker that keeps no job finds this in the lanes, from one on. One that keeps a job looks in no
+-- lane.
+abbrev pub FindsNow : Option KeptJob → ℕ → ℕ → WorkerRecord → Found → WorkerRecord → Type 0
+FindsNow None lanes from old found new = Finds lanes from (TRIES * find_steps) old found new
+FindsNow (Some one) lanes from old found new = (found ≡ kept_found one) × (new ≡ old)
 
 -- Where the worker is after its call. It keeps a job only if the caller is to call again.
 abbrev pub Stops : Option KeptJob → Found → At → Type 0
@@ -37,9 +38,9 @@ Stops (Some one) (Job lane job left) at = ⊥
 Stops (Some one) Ended at = ⊥
 Stops (Some one) Park at = ⊥
 
--- The worker went on to find a job in its lanes, and this is what it returns.
-pub record Seeks (old new : SleeperSide) (found : Found) : Type 0 where
+-- The worker went on to find a job in its lanes, from this one on, and this is what it returns.
+pub record Seeks (from : ℕ) (old new : SleeperSide) (found : Found) : Type 0 where
   pub same : arc_value new.common ≡ arc_value old.common
-  pub finds : FindsNow old.kept (arc_value old.common).lanes.plan.sizes.lanes old.finder.known
+  pub finds : FindsNow old.kept (arc_value old.common).lanes.plan.sizes.lanes from old.finder.known
       (found_by new.kept found) new.finder.known
   pub stops : Stops new.kept found new.finder.at

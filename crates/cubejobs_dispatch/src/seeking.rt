@@ -1,7 +1,8 @@
 //! A worker of lanes finds a job, or lies down.
-ghost use Rattle.std.specs.Prelude.{◌≡◌, ◌<◌, false, true, Some, IfSome};
+ghost use Rattle.std.specs.Prelude.{ℕ, ◌≡◌, ◌<◌, false, true, Some, IfSome};
 ghost use Rattle.std.specs.Arc.{arc_value};
 ghost use Rattle.job_lanes.specs.declared.finder.At.TheVariants.{Parked as AtParked};
+ghost use Rattle.job_lanes.specs.Deeds.{and_given, given_in, has_call};
 ghost use Rattle.job_lanes.specs.Phases.{IsAwake};
 ghost use Rattle.cubejobs_dispatch.specs.Sleeps.{Seeks};
 
@@ -13,9 +14,13 @@ impl SleeperSide {
     // Goes on to wake another worker. Returns the job that it keeps once that is over.
     fn wake_on(&mut self, one: KeptJob) -> Finding
         requires { self.old.kept ≡ Some one }
-        ensures found { Seeks self.old self.new result.found }
+        ensures found { (from : ℕ) → Seeks from self.old self.new result.found }
         ensures woken { IfSome result.woken (λ number.
             number < (arc_value self.old.common).lanes.plan.sizes.workers) }
+        ensures given { given_in self.new.finder.deeds
+            ≡ and_given result.woken (given_in self.old.finder.deeds) }
+        ensures calls { has_call self.old.finder.deeds ≡ false
+            → has_call self.new.finder.deeds ≡ false }
     {
         let woken = self.common.lanes.wake_more(&mut self.finder, TRIES);
         if self.finder.at() != At::Idle {
@@ -36,9 +41,13 @@ impl SleeperSide {
     // worker.
     pub(crate) fn find(&mut self, from: u32) -> Finding
         requires { from < (arc_value self.old.common).lanes.plan.sizes.lanes }
-        ensures found { Seeks self.old self.new result.found }
+        ensures found { Seeks from self.old self.new result.found }
         ensures woken { IfSome result.woken (λ number.
             number < (arc_value self.old.common).lanes.plan.sizes.workers) }
+        ensures given { given_in self.new.finder.deeds
+            ≡ and_given result.woken (given_in self.old.finder.deeds) }
+        ensures calls { has_call self.old.finder.deeds ≡ false
+            → has_call self.new.finder.deeds ≡ false }
     {
         if let Some(one) = self.kept {
             return self.wake_on(one);
@@ -62,6 +71,7 @@ impl SleeperSide {
         ensures common { arc_value self.new.common ≡ arc_value self.old.common }
         ensures known { self.new.finder.known ≡ self.old.finder.known }
         ensures kept { self.new.kept ≡ self.old.kept }
+        ensures deeds { self.new.finder.deeds ≡ self.old.finder.deeds }
         ensures parks { result ≡ false → self.new.finder.at ≡ AtParked }
         ensures awake { result ≡ true → IsAwake self.new.finder.at }
     {

@@ -74,6 +74,7 @@ impl LaneSide {
         ensures common { arc_value self.new.common ≡ arc_value self.old.common }
         ensures known { Submits payload dim self.old.lane.known result self.new.lane.known }
         ensures keeps { SubmitKeeps self.old.lane.known self.new.lane.known }
+        ensures deeds { self.new.lane.deeds ≡ self.old.lane.deeds }
     {
         self.common.lanes.submit(&mut self.lane, payload, dim)
     }
@@ -135,6 +136,7 @@ impl WorkerSide {
     pub(crate) fn take(&mut self, lane: u32) -> Taken
         requires lane { lane < (arc_value self.old.common).lanes.plan.sizes.lanes }
         ensures common { arc_value self.new.common ≡ arc_value self.old.common }
+        ensures deeds { self.new.worker.deeds ≡ self.old.worker.deeds }
         ensures only { ChangesOnly lane self.old.worker.known self.new.worker.known }
         ensures takes { Takes (take_of lane self.old.worker.known) result
             (take_of lane self.new.worker.known) }
@@ -149,6 +151,7 @@ impl WorkerSide {
     pub(crate) fn take_any(&mut self, from: u32) -> TakenAny
         requires from { from < (arc_value self.old.common).lanes.plan.sizes.lanes }
         ensures common { arc_value self.new.common ≡ arc_value self.old.common }
+        ensures deeds { self.new.worker.deeds ≡ self.old.worker.deeds }
         ensures takes { TakesAny (arc_value self.old.common).lanes.plan.sizes.lanes from
             self.old.worker.known result self.new.worker.known }
         ensures keeps { TakeAnyKeeps (arc_value self.old.common).lanes.plan.sizes.lanes
@@ -162,6 +165,7 @@ impl WorkerSide {
     pub(crate) fn look(&mut self, lane: u32) -> Looked
         requires lane { lane < (arc_value self.old.common).lanes.plan.sizes.lanes }
         ensures common { arc_value self.new.common ≡ arc_value self.old.common }
+        ensures deeds { self.new.worker.deeds ≡ self.old.worker.deeds }
         ensures only { ChangesOnly lane self.old.worker.known self.new.worker.known }
         ensures looks { Looks (take_of lane self.old.worker.known) result
             (take_of lane self.new.worker.known) }

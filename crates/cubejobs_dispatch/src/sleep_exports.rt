@@ -71,7 +71,7 @@ pub extern "C" fn cubejobs_lanes_find(worker: &mut Handle, from: u32) -> FindAns
         → result ≡ no_find BAD_LANE NO_WORKER }
     ensures found { resting_refusal (content_of worker.old) ≡ DONE
         → On (λ old. from < lanes_at old
-        → On (HasFound result old) (resting_in (content_of worker.new)))
+        → On (HasFound from result old) (resting_in (content_of worker.new)))
         (resting_in (content_of worker.old)) }
     ensures awake { (result.code ≡ DONE) ⊎ (result.code ≡ ENDED)
         → worker_refusal (content_of worker.new) ≡ DONE }

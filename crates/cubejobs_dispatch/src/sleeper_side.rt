@@ -37,6 +37,7 @@ impl WorkerSide {
     pub(crate) fn into_sleeper(self) -> SleeperSide
         ensures common { arc_value result.common ≡ arc_value self.common }
         ensures known { result.finder.known ≡ self.worker.known }
+        ensures deeds { result.finder.deeds ≡ self.worker.deeds }
         ensures idle { result.finder.at ≡ AtIdle }
         ensures none { result.kept ≡ None }
     {
@@ -66,6 +67,7 @@ impl SleeperSide {
         requires idle { self.finder.at ≡ AtIdle }
         ensures common { arc_value result.common ≡ arc_value self.common }
         ensures known { result.worker.known ≡ self.finder.known }
+        ensures deeds { result.worker.deeds ≡ self.finder.deeds }
     {
         let SleeperSide {
             common,

@@ -1,6 +1,7 @@
 //! A producer of lanes wakes a worker that sleeps.
 ghost use Rattle.std.specs.Prelude.{◌≡◌};
 ghost use Rattle.std.specs.Arc.{arc_value};
+ghost use Rattle.job_lanes.specs.Deeds.{after_wake};
 ghost use Rattle.kept_places.specs.Wakes.{LooksForSleepers};
 
 use crate::sides::LaneSide;
@@ -13,6 +14,7 @@ impl LaneSide {
         ensures common { arc_value self.new.common ≡ arc_value self.old.common }
         ensures known { self.new.lane.known ≡ self.old.lane.known }
         ensures looks { LooksForSleepers (arc_value self.old.common).lanes result self.new.lane }
+        ensures gives { self.new.lane.deeds ≡ after_wake result self.old.lane.deeds }
     {
         self.common.lanes.wake_one(&mut self.lane, TRIES)
     }

@@ -1,25 +1,12 @@
 -- What the handle of a block holds.
-use Rattle.std.proofs.Common.{◌≡◌, ℕ, [], ◌∷◌, Bool, true, ap, ◌∙◌, sym, Some, None, if◌then◌else◌}
-use Rattle.atomic_table.specs.declared.shared.Seat.{Seat}
+use Rattle.std.proofs.Common.{◌≡◌, ℕ, Bool, true, ap, ◌∙◌, Some, None, if◌then◌else◌}
 use Rattle.bitmap_tree.specs.declared.handles.HeldBlock.{HeldBlock}
-use Rattle.bitmap_tree.specs.declared.view.Run.{Run}
-use Rattle.bitmap_tree.specs.declared.view.View.{View}
 use Rattle.bitmap_tree.specs.Handles.{held_dim, held_region, held_seat}
-use Rattle.cubejobs_regions.specs.declared.hidden_seat.HiddenSeat.{HiddenSeat}
-use Rattle.cubejobs_regions.specs.HiddenSeats.{seat_in, view_in}
+use Rattle.bitmap_tree.specs.declared.steps.HiddenSeat.{HiddenSeat}
+use Rattle.bitmap_tree.specs.HiddenSeats.{seat_in}
 use Rattle.cubejobs_regions.specs.Held.{held_at}
 use Rattle.cubejobs_regions.specs.Holds.{Hold}
 use Rattle.cubejobs_regions.specs.Tags.{is_held, tag_dim, tag_region}
-
--- a seat that is hidden is the one that came
-pub seat_is : (h : HiddenSeat) (s : Seat Run View) → h.table_id ≡ s.table_id → h.id ≡ s.id
-    → h.views ≡ s.me.0 ∷ [] → s.me.1 ≡ [] → seat_in h ≡ s
-seat_is h s table id views none = λ i. record {
-  marker = record {};
-  table_id = table i;
-  id = id i;
-  me = (view_in (views i), sym none i);
-}
 
 pub chosen : {A : Type 0} (b : Bool) (x : A) → b ≡ true → (if b then Some x else None) ≡ Some x
 chosen b x is = ap (λ b. if b then Some x else None) is

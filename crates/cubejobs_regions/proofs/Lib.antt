@@ -1,7 +1,6 @@
 pub mod AsBox
 mod AlignLemmas
 mod CrossLemmas
-mod SeatFields
 mod HoldLemmas
 mod TagLemmas
 mod TakeLemmas

@@ -6,7 +6,7 @@ use Rattle.cubejobs_regions.specs.declared.codes.TheConstants.{ALREADY_OPEN, DON
 use Rattle.cubejobs_regions.specs.declared.block_handle.BlockHandle.{BlockHandle}
 use Rattle.cubejobs_regions.specs.declared.handle.Handle.{Handle}
 use Rattle.cubejobs_regions.specs.declared.machine.Machine.{Machine}
-use Rattle.cubejobs_regions.specs.HiddenSeats.{seat_in}
+use Rattle.bitmap_tree.specs.HiddenSeats.{seat_in}
 use Rattle.cubejobs_regions.specs.MachineIn.{machine_in}
 use Rattle.cubejobs_regions.specs.Tags.{is_held}
 

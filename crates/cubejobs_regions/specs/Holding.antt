@@ -5,7 +5,7 @@ use Rattle.bitmap_tree.specs.declared.view.Note.{Note}
 use Rattle.cubejobs_regions.specs.declared.block_handle.BlockHandle.{BlockHandle}
 use Rattle.cubejobs_regions.specs.declared.codes.TheConstants.{DONE, NOT_OPEN, NOTHING_HELD, OTHER_MACHINE}
 use Rattle.cubejobs_regions.specs.declared.machine.Machine.{Machine}
-use Rattle.cubejobs_regions.specs.HiddenSeats.{seat_in}
+use Rattle.bitmap_tree.specs.HiddenSeats.{seat_in}
 use Rattle.cubejobs_regions.specs.Holds.{hold_of, Hold}
 use Rattle.cubejobs_regions.specs.Machine.{dim_of_machine, number_of, tree_of}
 

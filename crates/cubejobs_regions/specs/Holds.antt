@@ -1,11 +1,9 @@
 -- What the handle of a block holds.
 use Rattle.std.specs.Prelude.{ℕ, List, Option, Some, None, if◌then◌else◌}
-use Rattle.atomic_table.specs.declared.shared.Seat.{Seat}
 use Rattle.cube_shape.specs.declared.region.Region.{Region}
 use Rattle.bitmap_tree.specs.declared.view.Note.{Note}
-use Rattle.bitmap_tree.specs.declared.view.Run.{Run}
-use Rattle.bitmap_tree.specs.declared.view.View.{View}
-use Rattle.cubejobs_regions.specs.HiddenSeats.{seat_in}
+use Rattle.bitmap_tree.specs.Seats.{SeatOf}
+use Rattle.bitmap_tree.specs.HiddenSeats.{seat_in}
 use Rattle.cubejobs_regions.specs.Tags.{is_held, tag_dim, tag_region}
 use Rattle.cubejobs_regions.specs.declared.block_handle.BlockHandle.{BlockHandle}
 
@@ -15,7 +13,7 @@ pub record Hold : Type 0 where
   pub number : ℕ
   pub dim : ℕ
   pub region : Region
-  pub seat : Seat Run View
+  pub seat : SeatOf
 
 -- What the handle would hold, were its tag that of a held block.
 abbrev pub hold_in : BlockHandle → Hold

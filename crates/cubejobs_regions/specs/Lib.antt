@@ -4,10 +4,8 @@ pub mod Ends
 pub mod Gives
 pub mod Handle
 pub mod Held
-pub mod HiddenSeats
 pub mod Holding
 pub mod Holds
-pub mod InnerHiddenSeat
 pub mod InnerLending
 pub mod InnerOpaquePtr
 pub mod Machine
@@ -19,3 +17,5 @@ pub mod Takes
 pub use Rattle.bitmap_tree.specs.Bounds.{block_steps, quick_steps, take_steps}
 pub use Rattle.bitmap_tree.specs.Layout.{AreHalves}
 pub use Rattle.bitmap_tree.specs.Parts.{IsHeldBy}
+pub use Rattle.bitmap_tree.specs.HiddenSeats.{seat_in}
+pub use Rattle.bitmap_tree.specs.Seats.{HasNoBit}

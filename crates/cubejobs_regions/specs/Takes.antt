@@ -35,8 +35,7 @@ pub record IsTaken (most : ℕ) (machine : Machine) (new : BlockHandle) (answer 
   pub few : length (hold_trail hold) ≤ most
 
 -- What each take answers, of at most this number of steps by the dimension of the machine. A block
--- is in the new handle, or it holds what the old one held. Only a take that gave up words counts
--- these.
+-- is in the new handle, or it holds what the old one held. Only a take that gave up a word says so.
 pub record IsAnsweredBy (most : ℕ → ℕ) (thread : Option Machine) (old new : BlockHandle)
     (answer : Answer) : Type 0 where
   pub barred : refusal_of_take thread old ≢ DONE → answer.code ≡ refusal_of_take thread old
@@ -45,6 +44,7 @@ pub record IsAnsweredBy (most : ℕ → ℕ) (thread : Option Machine) (old new 
   pub same : answer.code ≢ DONE → hold_of new ≡ hold_of old
   pub none : answer.code ≢ DONE → NamesNone answer
   pub quiet : answer.code ≢ NOT_NOW → answer.contended ≡ 0
+  pub one : answer.contended ≤ 1
 
 -- A take on a machine of dimension `n` looked at each word before it was refused. Where it gave up
 -- no word, it found a bit of each block of dimension `k` set. Where it gave one up, another call

@@ -16,7 +16,7 @@ pub struct Answer {
     pub code: u16,
     /// The block's dimension if the call succeeded, else 0.
     pub dim: u16,
-    /// The number of words that a refused take gave up, in each of which other calls were faster.
+    /// 1 if a refused take gave up a word in which other calls were faster, else 0.
     pub contended: u32,
     /// The block's first processor if the call succeeded, else 0.
     pub base: u64,

@@ -1,5 +1,5 @@
 //! How a machine begins and ends, by the place of a handle's content.
-ghost use Rattle.std.specs.Prelude.{◌≡◌, ◌<◌, ◌≤◌, ◌^◌, [], Some, IsSome, IfErr, IfNone, IfOk, IfSome};
+ghost use Rattle.std.specs.Prelude.{◌≡◌, ◌<◌, ◌≤◌, ◌^◌, Some, IsSome, IfErr, IfNone, IfOk, IfSome};
 ghost use Rattle.cube_shape.specs.declared.limits.TheConstants.{MAX_BITMAP_DIM};
 ghost use Rattle.bitmap_tree.specs.Handles.{dim_of};
 ghost use Rattle.cubejobs_regions.specs.Ends.{FoundFree, FoundHeld, IsKept, IsNew};
@@ -11,7 +11,7 @@ use crate::common::Common;
 use crate::machine::Machine;
 use crate::ownership::Ownership;
 use crate::state::State;
-use bitmap_tree::{BitmapTree, BlockSeat};
+use bitmap_tree::{BitmapTree, BlankSeat};
 use std::alloc::Global;
 
 // Opens a machine of dimension `n` in a place of its own. Returns `None` if memory ran out.
@@ -101,15 +101,13 @@ pub(crate) fn share(alloc: Global, place: Box<State>) -> (Box<State>, Option<Box
 
 // Frees a machine if no block of it is held, by a take of the whole. Otherwise returns it. Also
 // returns the seat of the call.
-fn end(common: Common, start: u64) -> Result<BlockSeat, (Machine, BlockSeat)>
+fn end(common: Common, start: u64) -> Result<BlankSeat, (Machine, BlankSeat)>
     requires start { start < 2 ^ dim_of common.tree }
     ensures free { IfOk result (λ seat. FoundFree (dim_of common.tree) seat.me.0.trail) }
     ensures held { IfErr result (λ kept. FoundHeld (dim_of common.tree) kept.1.me.0.trail) }
     ensures common { IfErr result (λ kept. common_of kept.0.owner ≡ common) }
     ensures sole { IfErr result (λ kept. IsSole kept.0) }
     ensures start { IfErr result (λ kept. kept.0.start ≡ start) }
-    ensures no_slot { IfOk result (λ seat. seat.me.1 ≡ []) }
-    ensures no_slot_held { IfErr result (λ kept. kept.1.me.1 ≡ []) }
 {
     match common.tree.take(common.tree.dim(), start) {
         Ok(held) => Ok(common.tree.release(held).into_seat()),
@@ -126,7 +124,7 @@ fn end(common: Common, start: u64) -> Result<BlockSeat, (Machine, BlockSeat)>
 
 // Frees the handle of a place. The last one frees the machine, and returns the seat of the call. It
 // returns the place too if a block is held.
-pub(crate) fn free(place: Box<State>) -> Result<Option<BlockSeat>, (Box<State>, BlockSeat)>
+pub(crate) fn free(place: Box<State>) -> Result<Option<BlankSeat>, (Box<State>, BlankSeat)>
     requires { IsSome (machine_in (Some place.value)) }
     ensures others { IfOk result (λ seat. IfNone seat
         (OnMachine (λ machine. IsSole machine → ⊥) (machine_in (Some place.value)))) }
@@ -136,8 +134,6 @@ pub(crate) fn free(place: Box<State>) -> Result<Option<BlockSeat>, (Box<State>, 
         FoundHeld (dim_of_machine machine) kept.1.me.0.trail) (machine_in (Some place.value))) }
     ensures kept { IfErr result (λ kept. OnMachine (λ machine. OnMachine (IsKept machine)
         (machine_in (Some kept.0.value))) (machine_in (Some place.value))) }
-    ensures no_slot { IfOk result (λ seat. IfSome seat (λ seat. seat.me.1 ≡ [])) }
-    ensures no_slot_held { IfErr result (λ kept. kept.1.me.1 ≡ []) }
 {
     let mut place = place;
     let State::Machine(machine) = Box::replace(&mut place, State::Taken) else {

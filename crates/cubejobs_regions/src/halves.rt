@@ -39,8 +39,8 @@ pub(crate) fn split(machine: &Machine, region: &mut BlockHandle, half: &mut Bloc
     }
     let held = take_out(machine, region);
     let (lower, upper) = machine.tree().split(held);
-    *region = BlockHandle::of(lower, number);
-    *half = BlockHandle::of(upper, number);
+    region.put(lower, number);
+    half.put(upper, number);
     DONE
 }
 
@@ -95,6 +95,6 @@ pub(crate) fn join(machine: &Machine, region: &mut BlockHandle, half: &mut Block
     let lower = take_out(machine, region);
     let upper = take_out(machine, half);
     let whole = machine.tree().join(lower, upper);
-    *region = BlockHandle::of(whole, number);
+    region.put(whole, number);
     DONE
 }

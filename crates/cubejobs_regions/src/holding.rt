@@ -1,5 +1,5 @@
 //! A held block goes into a handle of C's and comes out again.
-ghost use Rattle.std.specs.Prelude.{◌≡◌, true, false, [], None, Some};
+ghost use Rattle.std.specs.Prelude.{◌≡◌, true, false, None, Some};
 ghost use Rattle.cubejobs_regions.specs.Held.{held_at};
 ghost use Rattle.cubejobs_regions.specs.Handle.{refusal_of_filling};
 ghost use Rattle.cubejobs_regions.specs.Holding.{trail_of};
@@ -8,10 +8,8 @@ ghost use Rattle.cubejobs_regions.specs.Tags.{is_held};
 
 use crate::block_handle::BlockHandle;
 use crate::codes::{DONE, HOLDS_ALREADY, OPEN, OTHER_KIND};
-use crate::hidden_seat::HiddenSeat;
 use crate::tag::{dim_at, holds, region_at, tag_of};
-use atomic_table::Badge;
-use bitmap_tree::{BlockSeat, HeldBlock};
+use bitmap_tree::{BlankSeat, HeldBlock, HiddenSeat};
 use std::mem::replace;
 
 impl BlockHandle {
@@ -34,13 +32,33 @@ impl BlockHandle {
         ensures { hold_of result ≡ Some (held_at machine held) }
     {
         let (region, dim, seat) = held.into_parts();
-        let (seat, none) = HiddenSeat::blank().exchange(seat.into_badge());
-        drop(none);
         BlockHandle {
             tag: tag_of(region, dim),
             machine,
-            seat,
+            seat: HiddenSeat::of(seat),
         }
+    }
+
+    // Lets an empty handle go.
+    #[inline(always)]
+    fn leave(self)
+        requires { is_held self.tag ≡ false }
+    {
+        let BlockHandle {
+            tag: _,
+            machine: _,
+            seat,
+        } = self;
+        seat.leave();
+    }
+
+    // Puts a held block into an empty handle, of a machine of this number.
+    #[inline(always)]
+    pub(crate) fn put(&mut self, held: HeldBlock, machine: u64)
+        requires { is_held self.old.tag ≡ false }
+        ensures { hold_of self.new ≡ Some (held_at machine held) }
+    {
+        replace(self, BlockHandle::of(held, machine)).leave();
     }
 
     // Returns whether it holds a block.
@@ -61,20 +79,18 @@ impl BlockHandle {
         let tag = self.tag;
         self.tag = 0;
         let seat = replace(&mut self.seat, HiddenSeat::blank());
-        let (none, badge) = seat.exchange(Badge::blank());
-        drop(none);
-        HeldBlock::of_parts(region_at(tag), dim_at(tag), badge.into_seat())
+        HeldBlock::of_parts(region_at(tag), dim_at(tag), seat.into_seat())
     }
 
     // Keeps the seat of a call in an empty handle, and so what its steps found. No bytes change.
     #[inline(always)]
-    pub(crate) fn keep(&mut self, seat: BlockSeat)
+    pub(crate) fn keep(&mut self, seat: BlankSeat)
         requires empty { is_held self.old.tag ≡ false }
-        requires no_slot { seat.me.1 ≡ [] }
         ensures none { hold_of self.new ≡ None }
         ensures trail { trail_of self.new ≡ seat.me.0.trail }
     {
-        self.seat.keep(seat);
+        let last = HiddenSeat::of(seat.into_block_seat());
+        replace(&mut self.seat, last).leave();
     }
 
     // Returns why no block can be put into it, or `DONE`.

@@ -11,7 +11,6 @@ mod ends;
 mod gives;
 mod halves;
 mod handle;
-mod hidden_seat;
 mod holding;
 mod law;
 mod machine;

@@ -49,7 +49,7 @@ pub extern "C" fn cubejobs_regions_open_version(
     match ends::machine_of(alloc, n, number) {
         None => OUT_OF_MEMORY,
         Some(place) => {
-            *machine = Handle::of(place);
+            machine.put(place);
             DONE
         }
     }
@@ -82,11 +82,11 @@ pub extern "C" fn cubejobs_regions_share(
         return NOT_OPEN;
     };
     let (place, another) = ends::share(alloc, place);
-    *thread = Handle::of(place);
+    thread.put(place);
     match another {
         None => OUT_OF_MEMORY,
         Some(another) => {
-            *other = Handle::of(another);
+            other.put(another);
             DONE
         }
     }
@@ -119,7 +119,7 @@ pub extern "C" fn cubejobs_regions_free(alloc: Global, thread: &mut Handle) -> u
             DONE
         }
         Err((place, seat)) => {
-            *thread = Handle::of(place);
+            thread.put(place);
             thread.keep(seat);
             STILL_HELD
         }

@@ -1,5 +1,5 @@
 //! How much of a machine is free.
-ghost use Rattle.std.specs.Prelude.{◌≡◌, ◌≢◌, None, IsSome, [], false};
+ghost use Rattle.std.specs.Prelude.{◌≡◌, ◌≢◌, None, IsSome, false};
 ghost use Rattle.bitmap_occupancy.specs.Counted.{IsCountOf};
 ghost use Rattle.bitmap_tree.specs.Handles.{id_of};
 ghost use Rattle.cubejobs_regions.specs.Handle.{machine_of};
@@ -12,7 +12,7 @@ use crate::handle::Handle;
 use crate::machine::Machine;
 use crate::places::machine_at;
 use bitmap_occupancy::{FREE_PLACES, Occupancy, occupancy};
-use bitmap_tree::BlockSeat;
+use bitmap_tree::BlankSeat;
 
 impl OccupancyAnswer {
     // Makes the answer of a refused call.
@@ -56,13 +56,12 @@ fn answer_of(found: Occupancy) -> OccupancyAnswer
 }
 
 // Counts what is free and held in a machine. Returns the seat of the loads too.
-fn count(machine: &Machine) -> (OccupancyAnswer, BlockSeat)
+fn count(machine: &Machine) -> (OccupancyAnswer, BlankSeat)
     ensures code { result.0.code ≡ DONE }
     ensures table { result.1.table_id ≡ id_of (tree_of machine.now) }
     ensures counted { IsCountOf (dim_of_machine machine.now) result.1.me.0.trail
         (occupancy_of result.0) }
     ensures no_largest { result.0.has_free ≡ false → result.0.largest ≡ 0 }
-    ensures no_slot { result.1.me.1 ≡ [] }
 {
     let (found, seat) = occupancy(machine.tree());
     (answer_of(found), seat)

@@ -1,16 +1,15 @@
 //! The machine of a handle: as it is lent for a call, or lifted out and put back.
-ghost use Rattle.std.specs.Prelude.{◌≡◌, ◌↔◌, [], None, Some, IfSome, IfNone, IsSome, IsTrue};
+ghost use Rattle.std.specs.Prelude.{◌≡◌, ◌↔◌, None, Some, IfSome, IfNone, IsSome, IsTrue};
 ghost use Rattle.cubejobs_regions.specs.Handle.{last_table, last_trail, machine_of, refusal_of_opening};
 ghost use Rattle.cubejobs_regions.specs.MachineIn.{machine_in};
 
 use crate::codes::{ALREADY_OPEN, DONE, OPEN, OTHER_KIND};
 use crate::handle::Handle;
-use crate::hidden_seat::HiddenSeat;
 use crate::machine::Machine;
 use crate::opaque_ptr::OpaquePtr;
 use crate::state::State;
 use crate::tag::holds;
-use bitmap_tree::BlockSeat;
+use bitmap_tree::{BlankSeat, HiddenSeat};
 use std::alloc::Global;
 use std::mem::replace;
 
@@ -41,13 +40,27 @@ impl Handle {
     }
 
     // Keeps the seat of a call, and so what its steps found. No bytes change.
-    pub(crate) fn keep(&mut self, seat: BlockSeat)
-        requires no_slot { seat.me.1 ≡ [] }
+    pub(crate) fn keep(&mut self, seat: BlankSeat)
         ensures machine { machine_of self.new ≡ machine_of self.old }
         ensures table { last_table self.new ≡ seat.table_id }
         ensures trail { last_trail self.new ≡ seat.me.0.trail }
     {
-        self.seat.keep(seat);
+        let last = HiddenSeat::of(seat.into_block_seat());
+        replace(&mut self.seat, last).leave();
+    }
+
+    // Makes it the handle of a machine. A machine that it had is dropped.
+    #[inline(always)]
+    pub(crate) fn put(&mut self, place: Box<State>)
+        requires { IsSome (machine_in (Some place.value)) }
+        ensures { machine_of self.new ≡ machine_in (Some place.value) }
+    {
+        let Handle {
+            tag: _,
+            ptr: _,
+            seat,
+        } = replace(self, Handle::of(place));
+        seat.leave();
     }
 
     // Returns whether it is open.
@@ -75,7 +88,8 @@ impl Handle {
             (machine_in (Some place.value) ≡ machine_of self) × IsSome (machine_of self)) }
         ensures none { IfNone result (machine_of self ≡ None) }
     {
-        let Handle { tag, ptr, seat: _ } = self;
+        let Handle { tag, ptr, seat } = self;
+        seat.leave();
         if tag == OPEN {
             Some(ptr.into_box())
         } else {

@@ -65,7 +65,7 @@ pub extern "C" fn cubejobs_regions_take_exact(
     ensures found { (result.code ≡ NO_ROOM) ⊎ (result.code ≡ NOT_NOW)
         → OnMachine (λ machine. FoundNoRoom (dim_of_machine machine) k result.contended
         (trail_of region.new)) (machine_of thread.old) }
-    ensures busy { result.code ≡ NOT_NOW → result.contended ≢ 0 }
+    ensures busy { result.code ≡ NOT_NOW → result.contended ≡ 1 }
     ensures machine { machine_of thread.new ≡ machine_of thread.old }
 {
     let code = takes::refusal(thread, region);
@@ -101,7 +101,7 @@ pub extern "C" fn cubejobs_regions_take_at(
     ensures found { (result.code ≡ TAKEN) ⊎ (result.code ≡ NOT_NOW)
         → OnMachine (λ machine. FoundInUse (dim_of_machine machine) (region_at base k)
         result.contended (trail_of region.new)) (machine_of thread.old) }
-    ensures busy { result.code ≡ NOT_NOW → result.contended ≢ 0 }
+    ensures busy { result.code ≡ NOT_NOW → result.contended ≡ 1 }
     ensures machine { machine_of thread.new ≡ machine_of thread.old }
 {
     let code = takes::refusal(thread, region);

@@ -1,5 +1,5 @@
 //! Takes of a block into a handle.
-ghost use Rattle.std.specs.Prelude.{◌≡◌, ◌≢◌, ◌<◌, ◌≤◌, ◌⊎◌, Some, None};
+ghost use Rattle.std.specs.Prelude.{◌≡◌, ◌≢◌, ◌<◌, ◌≤◌, ◌⊎◌, Some, None, true, false};
 ghost use Rattle.cube_shape.specs.Region.{IsAligned};
 ghost use Rattle.bitmap_tree.specs.Bounds.{block_steps, quick_steps, take_steps};
 ghost use Rattle.bitmap_tree.specs.Handles.{held_region};
@@ -35,31 +35,33 @@ pub(crate) fn refusal(thread: &Handle, region: &BlockHandle) -> u32
 // Puts a held block into a handle.
 #[inline(always)]
 fn fill(number: u64, region: &mut BlockHandle, held: HeldBlock) -> Answer
+    requires { refusal_of_filling region.old ≡ DONE }
     ensures code { result.code ≡ DONE }
     ensures region { region_of result ≡ held_region held }
     ensures quiet { result.contended ≡ 0 }
     ensures held { hold_of region.new ≡ Some (held_at number held) }
 {
     let answer = done(held.region());
-    *region = BlockHandle::of(held, number);
+    region.put(held, number);
     answer
 }
 
-// Makes the answer of a take that found nothing free: this code, unless it gave up words.
+// Makes the answer of a take that found nothing free: this code, unless it gave up a word.
 #[inline(always)]
-fn sought(code: u32, contended: u32) -> Answer
+fn sought(code: u32, disturbed: bool) -> Answer
     requires code { code ≤ BAD_VERSION }
     requires other { code ≢ NOT_NOW }
-    ensures quiet { result.code ≢ NOT_NOW → (contended ≡ 0) × (result.code ≡ code) }
-    ensures busy { result.code ≡ NOT_NOW → contended ≢ 0 }
+    ensures quiet { result.code ≢ NOT_NOW → (result.contended ≡ 0) × (result.code ≡ code) }
+    ensures busy { result.code ≡ NOT_NOW → result.contended ≡ 1 }
     ensures either { (result.code ≡ code) ⊎ (result.code ≡ NOT_NOW) }
     ensures none { NamesNone result }
-    ensures contended { result.contended ≡ contended }
+    ensures alone { result.contended ≡ 0 → disturbed ≡ false }
+    ensures disturbed { result.contended ≢ 0 → disturbed ≡ true }
 {
-    if contended == 0 {
-        return refused(code, 0);
+    if disturbed {
+        return refused(NOT_NOW, 1);
     }
-    refused(NOT_NOW, contended)
+    refused(code, 0)
 }
 
 /// Takes a block of dimension `k` by the marks.
@@ -79,8 +81,8 @@ pub(crate) fn take(machine: &Machine, region: &mut BlockHandle, k: u32) -> Answe
         return refused(BAD_DIMENSION, 0);
     }
     match common.tree.take_quick(k, machine.start) {
-        Some(held) => fill(common.number, region, held),
-        None => refused(NOT_NOW, 0),
+        Ok(held) => fill(common.number, region, held),
+        Err(_) => refused(NOT_NOW, 0),
     }
 }
 
@@ -94,7 +96,7 @@ pub(crate) fn take_exact(machine: &Machine, region: &mut BlockHandle, k: u32) ->
     ensures dimension { result.code ≡ DONE → result.dim ≡ k }
     ensures found { (result.code ≡ NO_ROOM) ⊎ (result.code ≡ NOT_NOW)
         → FoundNoRoom (dim_of_machine machine.now) k result.contended (trail_of region.new) }
-    ensures busy { result.code ≡ NOT_NOW → result.contended ≢ 0 }
+    ensures busy { result.code ≡ NOT_NOW → result.contended ≡ 1 }
 {
     let common = machine.common();
     if k > common.tree.dim() {
@@ -103,9 +105,9 @@ pub(crate) fn take_exact(machine: &Machine, region: &mut BlockHandle, k: u32) ->
     match common.tree.take(k, machine.start) {
         Ok(held) => fill(common.number, region, held),
         Err(refusal) => {
-            let contended = refusal.contended;
+            let disturbed = refusal.disturbed;
             region.keep(refusal.into_seat());
-            sought(NO_ROOM, contended)
+            sought(NO_ROOM, disturbed)
         }
     }
 }
@@ -122,7 +124,7 @@ pub(crate) fn take_at(machine: &Machine, region: &mut BlockHandle, block: Region
     ensures region { result.code ≡ DONE → region_of result ≡ block }
     ensures found { (result.code ≡ TAKEN) ⊎ (result.code ≡ NOT_NOW)
         → FoundInUse (dim_of_machine machine.now) block result.contended (trail_of region.new) }
-    ensures busy { result.code ≡ NOT_NOW → result.contended ≢ 0 }
+    ensures busy { result.code ≡ NOT_NOW → result.contended ≡ 1 }
 {
     let common = machine.common();
     let n = common.tree.dim();
@@ -135,9 +137,9 @@ pub(crate) fn take_at(machine: &Machine, region: &mut BlockHandle, block: Region
     match common.tree.take_at(block) {
         Ok(held) => fill(common.number, region, held),
         Err(refusal) => {
-            let contended = refusal.contended;
+            let disturbed = refusal.disturbed;
             region.keep(refusal.into_seat());
-            sought(TAKEN, contended)
+            sought(TAKEN, disturbed)
         }
     }
 }

@@ -16,7 +16,8 @@ use Rattle.std.specs.Prelude.{map}
 use Rattle.ghost_history.specs.Lists.{first_of, rest_of, numbered_from}
 use Rattle.wake_pool.proofs.PartLemmas.{waking_is}
 use Rattle.wake_calls.specs.Pool.{in_phase}
-use Rattle.wake_calls.specs.Thread.{moved, IsIn, number_of}
+use Rattle.wake_calls.specs.Thread.{moved, noting, IsIn, number_of}
+use Rattle.wake_calls.specs.declared.deed.WakeDeed.{WakeDeed}
 use Rattle.wake_calls.specs.declared.waking.Wake.{Wake}
 use Rattle.wake_calls.specs.declared.waking.Wake.TheVariants.{Again}
 use Rattle.wake_calls.specs.declared.rule.ThreadRecord.{ThreadRecord}
@@ -29,7 +30,7 @@ use Rattle.job_lanes.specs.Lanes.{LanesId}
 use Rattle.job_lanes.specs.History.{count, is_shut}
 use Rattle.job_lanes.specs.Inner.Rule.{reads, Keeps}
 use Rattle.job_lanes.specs.Inner.Step.{Sat, IsLane, IsWorker}
-use Rattle.job_lanes.specs.Inner.Pool.{Puts, BothSat, BothSt, known_sat, known_state, threads_in, both, goes, producer_of, thread_at, jobs_in, workers_of, put_phase, KeepsBoth, MayPut, IsProducer, IsSleeper, IsStill, AreIdle, without_lane_both, lane_alone_both, without_worker_both, worker_alone_both, phase_in}
+use Rattle.job_lanes.specs.Inner.Pool.{Puts, BothSat, BothSt, known_sat, known_state, threads_in, both, goes, noted, producer_of, thread_at, jobs_in, workers_of, put_phase, KeepsBoth, MayPut, IsProducer, IsSleeper, IsStill, AreIdle, without_lane_both, lane_alone_both, without_worker_both, worker_alone_both, phase_in}
 use Rattle.job_lanes.specs.Inner.PoolLaw.{own_thread}
 use Rattle.job_lanes.proofs.LayoutLemmas.{lane-inside}
 use Rattle.job_lanes.proofs.NextLemmas.{shut_or_open, all_sound, tail_shut, tail_open}
@@ -37,7 +38,7 @@ use Rattle.job_lanes.proofs.PoolLemmas.{Outcome, lift_to, cell_jobs, close_jobs,
 
 -- the threads are as before
 abbrev pub Still : BothSat → ℕ → Both → Type 0
-Still m found v = (v.sleepers ≡ m.0.sleepers) × (v.others ≡ m.0.others)
+Still m found v = (v.sleepers ≡ m.0.sleepers) × (v.others ≡ m.0.others) × (v.deeds ≡ m.0.deeds)
 
 -- A step of a handle, where handle and lanes are of one table and one plan.
 pub asked_both : (Is : Plan → Type 0) (lid sid x : LanesId) (key : Plan) (id i a b : ℕ) (m : BothSat) (f : ℕ → ℕ) (then : Step (Unit {0}) → ℕ → Sat → Type 0) (late : ℕ → Both → Type 0)
@@ -57,7 +58,7 @@ pub asked_read : (Is : Plan → Type 0) (lid sid x : LanesId) (key : Plan) (id i
     → (lid.table ≡ sid.table) × (i < sid.table.words) × Allows (KeepsBoth key) sid.table.slots id m i (λ y. y) (λ found now. then (step sid.table.slots i a b none) found (known_sat now) × Still m found now.0)
 asked_read Is lid sid x key id i a b m then of_handle of_lanes plan_is is low allows =
     asked_both Is lid sid x key id i a b m (λ y. y) then (Still m) of_handle of_lanes plan_is is low allows
-    (λ n _ s k me. inl (read_world x.plan s k i, λ known. (refl, refl)))
+    (λ n _ s k me. inl (read_world x.plan s k i, λ known. (refl, refl, refl)))
 
 -- a store into a cell
 pub asked_cell : (Is : Plan → Type 0) (lid sid x : LanesId) (key : Plan) (id i y l o : ℕ) (m : BothSat) (then : Step (Unit {0}) → ℕ → Sat → Type 0)
@@ -70,7 +71,7 @@ asked_cell Is lid sid x key id i y l o m then of_handle of_lanes plan_is is low 
     (λ n _ s k me. inl (
       still_world x.plan s k i y (omega (arith, at))
           (λ j. subst (λ (z : ℕ). jobs_in x.plan (set s.words z y) j ≡ jobs_in x.plan s.words j) (sym at) (cell_jobs x.plan s.words l o y within no_tail no_head j)),
-      λ known. (refl, refl),
+      λ known. (refl, refl, refl),
     ))
 
 -- ---- the count of accepted jobs
@@ -89,12 +90,12 @@ asked_put Is lid sid x key id i c l m then of_handle of_lanes plan_is is low at 
     decide : (n : ℕ) → Is x.plan → (s : BothSt) (k : KeepsBoth x.plan s) → get_elem? s.views id ≡ some m.0 → Outcome x.plan n id m i (λ y. either (eqb y c) (c + 1) y) (then (step n i c (c + 1) none)) (Puts m c) s k
     decide n is_here s k me = exchanged (get_or s.words i 0) c (c + 1)
         (λ y. (IsSound (pool.world_of x.plan.sleepers x.plan.sizes.lanes (set s.words i y) (jobs_in x.plan (set s.words i y)) k.phases)
-        × ((known : View) → Puts m c (get_or s.words i 0) (both known m.0.sleepers m.0.others)))
+        × ((known : View) → Puts m c (get_or s.words i 0) (both known m.0.sleepers m.0.others m.0.deeds)))
         ⊎ ((r : ThreadRecord) × (q : Phase) × (threads_in m.0 ≡ r ∷ [])
         × IsSound (pool.world_of x.plan.sleepers x.plan.sizes.lanes (set s.words i y) (jobs_in x.plan (set s.words i y)) (machine.set k.phases r.number q))
-        × ((known : View) → Puts m c (get_or s.words i 0) (goes q (both known m.0.sleepers m.0.others)))))
-        (λ hit. inr (r, waking (pool.word_count x.plan.sleepers) 0, thread, sound hit, λ known. (λ _. ap (λ (w : ℕ). goes (waking (pool.word_count w) 0) (both known m.0.sleepers m.0.others)) (sym (ap workers_of thread)), λ other. absurd (other hit))))
-        (λ miss. inl (subst (λ (ws : List ℕ). IsSound (pool.world_of x.plan.sleepers x.plan.sizes.lanes ws (jobs_in x.plan ws) k.phases)) (sym (set-get_or s.words i 0)) k.sound, λ known. (λ same. absurd (miss same), λ _. (refl, refl))))
+        × ((known : View) → Puts m c (get_or s.words i 0) (goes q (both known m.0.sleepers m.0.others m.0.deeds)))))
+        (λ hit. inr (r, waking (pool.word_count x.plan.sleepers) 0, thread, sound hit, λ known. (λ _. ap (λ (w : ℕ). goes (waking (pool.word_count w) 0) (both known m.0.sleepers m.0.others m.0.deeds)) (sym (ap workers_of thread)), λ other. absurd (other hit))))
+        (λ miss. inl (subst (λ (ws : List ℕ). IsSound (pool.world_of x.plan.sleepers x.plan.sizes.lanes ws (jobs_in x.plan ws) k.phases)) (sym (set-get_or s.words i 0)) k.sound, λ known. (λ same. absurd (miss same), λ _. (refl, refl, refl))))
       where
         producer : IsProducer x.plan l m
         producer = (own is_here).1
@@ -147,7 +148,7 @@ asked_take Is lid sid x key id i c l t m then of_handle of_lanes plan_is is low 
           (λ hit. subst (λ (z : ℕ). IsSound (pool.world_of x.plan.sleepers x.plan.sizes.lanes (set s.words z (c + 1)) (jobs_in x.plan (set s.words z (c + 1))) k.phases)) (sym at)
           (take_world x.plan s k t l c within phase (sym (ap (λ (z : ℕ). get_or s.words z 0) at) ∙ hit)))
           (λ miss. subst (λ (ws : List ℕ). IsSound (pool.world_of x.plan.sleepers x.plan.sizes.lanes ws (jobs_in x.plan ws) k.phases)) (sym (set-get_or s.words i 0)) k.sound),
-      λ known. (refl, refl),
+      λ known. (refl, refl, refl),
     )
       where
         thread : threads_in m.0 ≡ thread_at x.plan Idle t ∷ []
@@ -169,7 +170,7 @@ asked_close x key id i l m told plan_is at within n allowed =
       subst (λ (z : ℕ). IsSound (pool.world_of x.plan.sleepers x.plan.sizes.lanes (set s.words z ((get_or s.words z 0 + CLOSED) % 2 ^ 64)) (jobs_in x.plan (set s.words z ((get_or s.words z 0 + CLOSED) % 2 ^ 64))) k.phases)) (sym at)
           (still_world x.plan s k (lane_start x.plan l + TAIL) ((reads x.plan s.words l TAIL + CLOSED) % 2 ^ 64) (omega arith)
           (close_jobs x.plan s.words l (subst (λ (z : ℕ). lane_start x.plan l + TAIL < z) (sym k.lanes.kept.long) (lane-inside x.plan l TAIL within (omega arith))))),
-      λ known. (refl, refl),
+      λ known. (refl, refl, refl),
     )))
 
 -- ---- the threads of handles after a step
@@ -186,7 +187,7 @@ producer_still plan number m now is still = record {
 }
 
 -- a producer that has put a job
-pub producer_puts : (plan : Plan) (number : ℕ) (m now : BothSat) → IsProducer plan number m → now.0 ≡ goes (put_phase m) (both now.0.known m.0.sleepers m.0.others) → IsProducer plan number now
+pub producer_puts : (plan : Plan) (number : ℕ) (m now : BothSat) → IsProducer plan number m → now.0 ≡ goes (put_phase m) (both now.0.known m.0.sleepers m.0.others m.0.deeds) → IsProducer plan number now
 producer_puts plan number m now is goes_on = record {
   phase = put_phase m;
   may_put = waking_is MayPut (pool.word_count (workers_of (threads_in m.0))) 0 (λ _. inr (0, refl)) (λ _. inl refl);
@@ -218,6 +219,13 @@ producer_next plan number seen p q m now at moves = record {
   lane = subst (IsLane plan number seen) (sym (ap known_sat moves)) at.lane;
   no_sleeper = ap (λ (z : BothSat). z.0.sleepers) moves ∙ ap (map (in_phase q)) at.no_sleeper;
   thread = ap (λ (z : BothSat). z.0.others) moves ∙ ap (map (in_phase q)) at.thread;
+}
+
+pub producer_noted : (plan : Plan) (number seen : ℕ) (q : Phase) (d : WakeDeed) (m now : BothSat) → ProducerAt plan number seen q m → now ≡ noting noted d m → ProducerAt plan number seen q now
+producer_noted plan number seen q d m now at notes = record {
+  lane = subst (IsLane plan number seen) (sym (ap known_sat notes)) at.lane;
+  no_sleeper = ap (λ (z : BothSat). z.0.sleepers) notes ∙ at.no_sleeper;
+  thread = ap (λ (z : BothSat). z.0.others) notes ∙ at.thread;
 }
 
 pub producer_last : (plan : Plan) (number seen : ℕ) (q : Phase) (m : BothSat) → ProducerAt plan number seen q m → MayPut q
@@ -289,6 +297,16 @@ goes_on plan number tails p q m now worker is moves =
       );
       phase = phase;
     }
+
+-- it leaves a note too
+pub goes_on_noted : (plan : Plan) (number : ℕ) (tails : List ℕ) (p q : Phase) (d : WakeDeed) (m now : BothSat) → IsWorker plan number tails (known_sat m) → IsSleeper plan number p m → now ≡ noting noted d (moved goes q m) → GoesOn plan number tails q now
+goes_on_noted plan number tails p q d m now worker is moves =
+    subst (GoesOn plan number tails q) (sym moves)
+    (let goes_there = goes_on plan number tails p q m (moved goes q m) worker is refl in
+    record {
+      handle = (goes_there.handle.0, record { thread = goes_there.handle.1.thread; no_other = goes_there.handle.1.no_other });
+      phase = goes_there.phase;
+    })
 
 -- the word of an outcome
 abbrev left_in : Wake → ℕ

@@ -1,5 +1,5 @@
 -- What rounds of a worker that may sleep leave in its record.
-use Rattle.std.proofs.Common.{◌≡◌, ◌≢◌, ℕ, ◌+◌, ◌-◌, ◌<◌, ◌≤◌, ◌⊎◌, ⊎_elim, List, [], ◌∷◌, ◌++◌, length, refl, sym, ap, ◌∙◌, subst, arith}
+use Rattle.std.proofs.Common.{◌≡◌, ◌≢◌, false, Option, Some, None, ℕ, ◌+◌, ◌-◌, ◌<◌, ◌≤◌, ◌⊎◌, ⊎_elim, List, [], ◌∷◌, ◌++◌, length, refl, sym, ap, ◌∙◌, subst, arith}
 use Rattle.std.specs.Prelude.{if◌then◌else◌}
 use Rattle.std.proofs.lemmas.Bool.{lt-ltb, le-ltb, cases_lt}
 use mathlib.Core.Logic.{dite}
@@ -15,6 +15,8 @@ use Rattle.job_lanes.specs.declared.rounds.Looked.TheVariants.{Jobs, NoneLeft, A
 use Rattle.job_lanes.specs.declared.rounds.TakenAny.TheVariants.{AnyJob, NoJob, AllEnded}
 use Rattle.job_lanes.specs.declared.finder.Found.{Found}
 use Rattle.job_lanes.specs.declared.finder.Found.TheVariants.{Job, Ended as FoundEnd, Park, Again}
+use Rattle.wake_calls.specs.declared.deed.WakeDeed.{WakeDeed}
+use Rattle.job_lanes.specs.Deeds.{given_in, has_call, after_gift, and_given}
 use Rattle.job_lanes.specs.Record.{take_of, after_head, after_tail}
 use Rattle.job_lanes.specs.Lanes.{Looks, Takes, Passes, TakesAny, TakeAnyKeeps, TakesNothing, ChangesOnly, distance, call_steps, look_steps}
 use Rattle.job_lanes.specs.Sleep.{FindsNone, FindsOne, Finds, SawEnd, SawOpen, IsNone}
@@ -102,6 +104,14 @@ looks_end lanes lane old now r = record {
 passes_taken : (a b : TakeRecord) → Passes a b → b.taken ≡ a.taken
 passes_taken a b passes = ⊎_elim (λ (e : Takes a Empty b). e.1) (λ (p : Takes a Lost b ⊎ Takes a Ended b). ⊎_elim (λ (l : Takes a Lost b). l.1) (λ (e : Takes a Ended b). e.1) p) passes
 
+pub none_same : (lanes n : ℕ) (old new : WorkerRecord) → new ≡ old → FindsNone lanes n old new
+none_same lanes n old new same = record {
+  number = ap (λ (w : WorkerRecord). w.number) same;
+  plan = ap (λ (w : WorkerRecord). w.plan) same;
+  long = ap (λ (w : WorkerRecord). length w.lanes) same;
+  nothing = λ k low. nothing_same n (take_of k old) (take_of k new) (ap (take_of k) same);
+}
+
 module _ (lanes from : ℕ) (old new : WorkerRecord) (keeps : TakeAnyKeeps lanes old new) where
   pub round_none : TakesAny lanes from old NoJob new → FindsNone lanes call_steps old new
   round_none takes = record {
@@ -126,7 +136,7 @@ module _ (lanes from : ℕ) (old new : WorkerRecord) (keeps : TakeAnyKeeps lanes
   pub round_one : (lane : ℕ) (job : LaneJob) (left : ℕ)
       → from < lanes
       → TakesAny lanes from old (AnyJob lane job left) new
-      → FindsOne lanes call_steps lane job left old new
+      → FindsOne lanes from call_steps lane job left old new
   round_one lane job left first takes = record {
     number = keeps.number;
     plan = keeps.plan;
@@ -139,17 +149,17 @@ module _ (lanes from : ℕ) (old new : WorkerRecord) (keeps : TakeAnyKeeps lanes
         (λ (far : distance lanes from lane ≤ distance lanes from k). ap (λ (t : TakeRecord). t.taken) (takes.3 k low (let apart : distance lanes from k ≢ distance lanes from lane = λ e. other (one_distance lanes from k lane first low takes.0 e) in omega (arith, far, apart))))
         (cases_lt (distance lanes from k) (distance lanes from lane));
     few = keeps.steps;
+    in_round = record {
+      before = old;
+      after = new;
+      left = left;
+      first = none_same lanes call_steps old old refl;
+      round = takes;
+      last = none_same lanes call_steps new new refl;
+    };
   }
 
 -- ---- rounds one after another
-
-pub none_same : (lanes n : ℕ) (old new : WorkerRecord) → new ≡ old → FindsNone lanes n old new
-none_same lanes n old new same = record {
-  number = ap (λ (w : WorkerRecord). w.number) same;
-  plan = ap (λ (w : WorkerRecord). w.plan) same;
-  long = ap (λ (w : WorkerRecord). length w.lanes) same;
-  nothing = λ k low. nothing_same n (take_of k old) (take_of k new) (ap (take_of k) same);
-}
 
 pub none_then : (lanes a b n : ℕ) (old mid new : WorkerRecord)
     → FindsNone lanes a old mid
@@ -164,13 +174,13 @@ none_then lanes a b n old mid new first second few = record {
 }
 
 -- the worker looks once more after it has taken a job
-pub one_then : (lanes a b n lane : ℕ) (job : LaneJob) (left now : ℕ) (old mid new : WorkerRecord)
-    → FindsOne lanes a lane job left old mid
+pub one_then : (lanes from a b n lane : ℕ) (job : LaneJob) (left now : ℕ) (old mid new : WorkerRecord)
+    → FindsOne lanes from a lane job left old mid
     → FindsNone lanes b mid new
     → a + b ≤ n
     → now ≡ (take_of lane new).tail - (job.seq + 1)
-    → FindsOne lanes n lane job now old new
-one_then lanes a b n lane job left now old mid new first second few left_is = record {
+    → FindsOne lanes from n lane job now old new
+one_then lanes from a b n lane job left now old mid new first second few left_is = record {
   number = second.number ∙ first.number;
   plan = second.plan ∙ first.plan;
   long = second.long ∙ first.long;
@@ -179,14 +189,22 @@ one_then lanes a b n lane job left now old mid new first second few left_is = re
   left_is = left_is;
   others = λ k low other. (second.nothing k low).0 ∙ first.others k low other;
   few = λ k low. omega (arith, (second.nothing k low).1, first.few k low, few);
+  in_round = record {
+    before = first.in_round.before;
+    after = first.in_round.after;
+    left = first.in_round.left;
+    first = none_then lanes a 0 n old first.in_round.before first.in_round.before first.in_round.first (none_same lanes 0 first.in_round.before first.in_round.before refl) (omega (arith, few));
+    round = first.in_round.round;
+    last = none_then lanes a b n first.in_round.after mid new first.in_round.last second few;
+  };
 }
 
-pub then_one : (lanes a b n lane : ℕ) (job : LaneJob) (left : ℕ) (old mid new : WorkerRecord)
+pub then_one : (lanes from a b n lane : ℕ) (job : LaneJob) (left : ℕ) (old mid new : WorkerRecord)
     → FindsNone lanes a old mid
-    → FindsOne lanes b lane job left mid new
+    → FindsOne lanes from b lane job left mid new
     → a + b ≤ n
-    → FindsOne lanes n lane job left old new
-then_one lanes a b n lane job left old mid new first second few = record {
+    → FindsOne lanes from n lane job left old new
+then_one lanes from a b n lane job left old mid new first second few = record {
   number = second.number ∙ first.number;
   plan = second.plan ∙ first.plan;
   long = second.long ∙ first.long;
@@ -195,29 +213,54 @@ then_one lanes a b n lane job left old mid new first second few = record {
   left_is = second.left_is;
   others = λ k low other. second.others k low other ∙ (first.nothing k low).0;
   few = λ k low. omega (arith, second.few k low, (first.nothing k low).1, few);
+  in_round = record {
+    before = second.in_round.before;
+    after = second.in_round.after;
+    left = second.in_round.left;
+    first = none_then lanes a b n old mid second.in_round.before first second.in_round.first few;
+    round = second.in_round.round;
+    last = none_then lanes b 0 n second.in_round.after new new second.in_round.last (none_same lanes 0 new new refl) (omega (arith, few));
+  };
 }
 
-pub then_finds : (lanes a b n : ℕ) (old mid : WorkerRecord) (found : Found) (new : WorkerRecord)
+pub then_finds : (lanes from a b n : ℕ) (old mid : WorkerRecord) (found : Found) (new : WorkerRecord)
     → FindsNone lanes a old mid
-    → Finds lanes b mid found new
+    → Finds lanes from b mid found new
     → a + b ≤ n
-    → Finds lanes n old found new
-then_finds lanes a b n old mid (Job lane job left) new first second few = then_one lanes a b n lane job left old mid new first second few
-then_finds lanes a b n old mid FoundEnd new first second few = (none_then lanes a b n old mid new first second.0 few, second.1)
-then_finds lanes a b n old mid Park new first second few = none_then lanes a b n old mid new first second few
-then_finds lanes a b n old mid Again new first second few = none_then lanes a b n old mid new first second few
+    → Finds lanes from n old found new
+then_finds lanes from a b n old mid (Job lane job left) new first second few = then_one lanes from a b n lane job left old mid new first second few
+then_finds lanes from a b n old mid FoundEnd new first second few = (none_then lanes a b n old mid new first second.0 few, second.1)
+then_finds lanes from a b n old mid Park new first second few = none_then lanes a b n old mid new first second few
+then_finds lanes from a b n old mid Again new first second few = none_then lanes a b n old mid new first second few
 
-pub finds_none : (lanes n : ℕ) (old : WorkerRecord) (found : Found) (new : WorkerRecord)
+pub finds_none : (lanes from n : ℕ) (old : WorkerRecord) (found : Found) (new : WorkerRecord)
     → IsNone found
     → FindsNone lanes n old new
-    → Finds lanes n old found new
-finds_none lanes n old (Job lane job left) new none is = absurd none
-finds_none lanes n old FoundEnd new none is = absurd none
-finds_none lanes n old Park new none is = is
-finds_none lanes n old Again new none is = is
+    → Finds lanes from n old found new
+finds_none lanes from n old (Job lane job left) new none is = absurd none
+finds_none lanes from n old FoundEnd new none is = absurd none
+finds_none lanes from n old Park new none is = is
+finds_none lanes from n old Again new none is = is
 
-pub none_found : (lanes n : ℕ) (old : WorkerRecord) (found : Found) (new : WorkerRecord)
+pub none_found : (lanes from n : ℕ) (old : WorkerRecord) (found : Found) (new : WorkerRecord)
     → found ≡ Again
-    → Finds lanes n old found new
+    → Finds lanes from n old found new
     → FindsNone lanes n old new
-none_found lanes n old found new again finds = subst (λ (f : Found). Finds lanes n old f new) again finds
+none_found lanes from n old found new again finds = subst (λ (f : Found). Finds lanes from n old f new) again finds
+
+-- ---- deeds
+
+-- a worker that was woken was given its token
+pub gift_given : (woken : Option ℕ) (old new : List WakeDeed)
+    → new ≡ after_gift woken old
+    → given_in new ≡ and_given woken (given_in old)
+gift_given (Some x) old new is = ap given_in is
+gift_given None old new is = ap given_in is
+
+-- a token is no call
+pub gift_calls : (woken : Option ℕ) (old new : List WakeDeed)
+    → new ≡ after_gift woken old
+    → has_call old ≡ false
+    → has_call new ≡ false
+gift_calls (Some x) old new is none = ap has_call is ∙ none
+gift_calls None old new is none = ap has_call is ∙ none

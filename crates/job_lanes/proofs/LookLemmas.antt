@@ -136,7 +136,7 @@ pub record ComesTo (plan : Plan) (number : ℕ) (q : Phase) (now : BothSat) : Ty
   pub sleeper : IsSleeper plan number (phase_in now.0.sleepers) now
   pub phase : phase_in now.0.sleepers ≡ q
 
-comes_to : (plan : Plan) (number : ℕ) (p q : Phase) (m now : BothSat) → IsSleeper plan number p m → now.0 ≡ goes q (both now.0.known m.0.sleepers m.0.others) → ComesTo plan number q now
+comes_to : (plan : Plan) (number : ℕ) (p q : Phase) (m now : BothSat) → IsSleeper plan number p m → now.0 ≡ goes q (both now.0.known m.0.sleepers m.0.others m.0.deeds) → ComesTo plan number q now
 comes_to plan number p q m now is moves =
     let sleepers : now.0.sleepers ≡ thread_at plan q number ∷ [] = ap (λ (v : Both). v.sleepers) moves ∙ ap (map (in_phase q)) is.thread in
     let others : now.0.others ≡ [] = ap (λ (v : Both). v.others) moves ∙ ap (map (in_phase q)) is.no_other in
@@ -163,12 +163,12 @@ module _ (plan x : Plan) (number : ℕ) (tails : List ℕ) (m now : BothSat) (w 
 
   pub empty_now : count ≡ head → ComesTo plan number (looked x (phase_in m.0.sleepers) true) now
   empty_now is_head = comes_to plan number (phase_in m.0.sleepers) (looked x (phase_in m.0.sleepers) true) m now thread
-      (subst (λ (z : Plan). now.0 ≡ goes (looked z (phase_in m.0.sleepers) true) (both now.0.known m.0.sleepers m.0.others)) (worker.plan_is ∙ same)
+      (subst (λ (z : Plan). now.0 ≡ goes (looked z (phase_in m.0.sleepers) true) (both now.0.known m.0.sleepers m.0.others m.0.deeds)) (worker.plan_is ∙ same)
       (goes_from.0 (without_mark closed has ∙ is_head ∙ sym head_there)))
 
   pub job_now : count ≢ head → ComesTo plan number (looked x (phase_in m.0.sleepers) false) now
   job_now other = comes_to plan number (phase_in m.0.sleepers) (looked x (phase_in m.0.sleepers) false) m now thread
-      (subst (λ (z : Plan). now.0 ≡ goes (looked z (phase_in m.0.sleepers) false) (both now.0.known m.0.sleepers m.0.others)) (worker.plan_is ∙ same)
+      (subst (λ (z : Plan). now.0 ≡ goes (looked z (phase_in m.0.sleepers) false) (both now.0.known m.0.sleepers m.0.others m.0.deeds)) (worker.plan_is ∙ same)
       (goes_from.1 (λ e. other (sym (without_mark closed has) ∙ e ∙ head_there))))
 
 -- ---- a job that the searcher finds
@@ -199,7 +199,7 @@ asked_find Is lid sid x key id i c l t m then of_handle of_lanes plan_is is low 
           exchanged (get_or s.words i 0) c (c + 1) (λ y. IsSound (pool.world_of x.plan.sleepers x.plan.sizes.lanes (set s.words i y) (jobs_in x.plan (set s.words i y)) k.phases))
               (λ hit. absurd (miss hit))
               (λ _. subst (λ (ws : List ℕ). IsSound (pool.world_of x.plan.sleepers x.plan.sizes.lanes ws (jobs_in x.plan ws) k.phases)) (sym (set-get_or s.words i 0)) k.sound),
-          λ view. (λ hit. absurd (miss hit), λ _. (refl, refl)),
+          λ view. (λ hit. absurd (miss hit), λ _. (refl, refl, refl)),
         ))
       where
         thread : threads_in m.0 ≡ thread_at x.plan Searching t ∷ []

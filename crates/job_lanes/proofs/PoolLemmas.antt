@@ -65,10 +65,10 @@ module _ (plan : Plan) where
     abbrev pub Outcome : (s : BothSt) → KeepsBoth plan s → Type 0
     Outcome s k =
         (IsSound (pool.world_of plan.sleepers plan.sizes.lanes (set s.words i (f (get_or s.words i 0))) (jobs_in plan (set s.words i (f (get_or s.words i 0)))) k.phases)
-        × ((known : View) → late (get_or s.words i 0) (both known m.0.sleepers m.0.others)))
+        × ((known : View) → late (get_or s.words i 0) (both known m.0.sleepers m.0.others m.0.deeds)))
         ⊎ ((r : ThreadRecord) × (q : Phase) × (threads_in m.0 ≡ r ∷ [])
         × IsSound (pool.world_of plan.sleepers plan.sizes.lanes (set s.words i (f (get_or s.words i 0))) (jobs_in plan (set s.words i (f (get_or s.words i 0)))) (machine.set k.phases r.number q))
-        × ((known : View) → late (get_or s.words i 0) (goes q (both known m.0.sleepers m.0.others))))
+        × ((known : View) → late (get_or s.words i 0) (goes q (both known m.0.sleepers m.0.others m.0.deeds))))
 
     pub lift_to : Allows (Keeps plan) n id (known_sat m) i f told
         → ((s : BothSt) (k : KeepsBoth plan s) → get_elem? s.views id ≡ some m.0 → Outcome s k)
@@ -90,27 +90,27 @@ module _ (plan : Plan) where
         turn : (w : View) (a : Act (Unit {0})) → Valid s.homes m.1 a → Keeps plan (stepped (known_state s) i (f (get_or s.words i 0)) id m.1 w a) → told (get_or s.words i 0) (w, carried_after m.1 a) → Outcome s k
             → (v : Both) × (a : Act (Unit {0})) × Valid s.homes m.1 a × KeepsBoth plan (stepped s i (f (get_or s.words i 0)) id m.1 v a) × (told (get_or s.words i 0) (v.known, carried_after m.1 a) × late (get_or s.words i 0) v)
         turn w a valid holds said (inl (sound, lately)) = (
-          both w m.0.sleepers m.0.others,
+          both w m.0.sleepers m.0.others m.0.deeds,
           a,
           valid,
           record {
-            lanes = part w a (both w m.0.sleepers m.0.others) refl holds;
+            lanes = part w a (both w m.0.sleepers m.0.others m.0.deeds) refl holds;
             base_is = k.base_is;
             phases = k.phases;
-            tied = stays threads_in thread_number s.views k.tied id m.0 me (λ x. thread_at plan (k.phases x) x) (both w m.0.sleepers m.0.others) refl (λ _. refl);
+            tied = stays threads_in thread_number s.views k.tied id m.0 me (λ x. thread_at plan (k.phases x) x) (both w m.0.sleepers m.0.others m.0.deeds) refl (λ _. refl);
             sound = sound;
           },
           (said, lately w),
         )
         turn w a valid holds said (inr (r, q, is, sound, lately)) = (
-          goes q (both w m.0.sleepers m.0.others),
+          goes q (both w m.0.sleepers m.0.others m.0.deeds),
           a,
           valid,
           record {
-            lanes = part w a (goes q (both w m.0.sleepers m.0.others)) refl holds;
+            lanes = part w a (goes q (both w m.0.sleepers m.0.others m.0.deeds)) refl holds;
             base_is = k.base_is;
             phases = machine.set k.phases r.number q;
-            tied = steps threads_in thread_number s.views k.tied id m.0 me (λ x. thread_at plan (machine.set k.phases r.number q x) x) (goes q (both w m.0.sleepers m.0.others)) r (in_phase q r) is
+            tied = steps threads_in thread_number s.views k.tied id m.0 me (λ x. thread_at plan (machine.set k.phases r.number q x) x) (goes q (both w m.0.sleepers m.0.others m.0.deeds)) r (in_phase q r) is
                 (sym (map_two (in_phase q) m.0.sleepers m.0.others) ∙ ap (map (in_phase q)) is) refl mine others;
             sound = sound;
           },

@@ -2,6 +2,7 @@
 -- of its caller.
 use Rattle.std.specs.Prelude.{◌≡◌, ℕ, ◌+◌, ◌<◌, ◌≤◌, ◌-◌, ◌⊎◌, true, false, cond, nat_lt, List, ◌∷◌, [], ◌++◌, length}
 use Rattle.atomic_table.specs.Seated.{TableId}
+use Rattle.wake_calls.specs.declared.deed.WakeDeed.{WakeDeed}
 use Rattle.job_lanes.specs.declared.sizes.Plan.{Plan}
 use Rattle.job_lanes.specs.declared.sizes.TheConstants.{MAX_JOBS}
 use Rattle.job_lanes.specs.declared.submits.Submitted.{Submitted}
@@ -34,11 +35,15 @@ pub record LaneOf : Type 0 where
   pub known : LaneRecord
   -- After an accepted job it has still to look at the words of sleepers from `next` on.
   pub next : ℕ
+  -- The tokens that it gave, the latest first.
+  pub deeds : List WakeDeed
 
--- The handle of a worker.
+-- The handle of a worker. It has what the worker did for other threads and with its calls, the
+-- latest first.
 pub record WorkerOf : Type 0 where
   pub id : LanesId
   pub known : WorkerRecord
+  pub deeds : List WakeDeed
 
 -- The handle of the closer.
 pub record CloserOf : Type 0 where

@@ -4,6 +4,7 @@ pub mod History
 pub mod Lanes
 pub mod Run
 pub mod Phases
+pub mod Deeds
 pub mod Sleep
 pub mod Inner
 pub use Rattle.wake_pool.specs.Law.{IsServed}

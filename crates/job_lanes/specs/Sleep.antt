@@ -1,6 +1,7 @@
 -- What contracts see of a worker that may sleep, and what its calls do.
 use Rattle.std.specs.Prelude.{◌≡◌, ◌≢◌, ℕ, ◌+◌, ◌-◌, ◌<◌, ◌≤◌, true, false, List, [], ◌∷◌, ◌++◌, length}
 use Rattle.wake_pool.specs.declared.phase.WakePhase.{WakePhase as Phase}
+use Rattle.wake_calls.specs.declared.deed.WakeDeed.{WakeDeed}
 use Rattle.job_lanes.specs.declared.record.LaneJob.{LaneJob}
 use Rattle.job_lanes.specs.declared.record.Sight.{Sight}
 use Rattle.job_lanes.specs.declared.record.TakeRecord.{TakeRecord}
@@ -10,20 +11,24 @@ use Rattle.job_lanes.specs.declared.finder.At.TheVariants.{Idle, Parked}
 use Rattle.job_lanes.specs.declared.finder.Found.{Found}
 use Rattle.job_lanes.specs.declared.finder.Found.TheVariants.{Job, Ended, Park, Again}
 use Rattle.job_lanes.specs.Record.{take_of, sight}
-use Rattle.job_lanes.specs.Lanes.{LanesId, TakesNothing, call_steps, look_steps}
+use Rattle.job_lanes.specs.declared.rounds.TakenAny.TheVariants.{AnyJob}
+use Rattle.job_lanes.specs.Lanes.{LanesId, TakesAny, TakesNothing, call_steps, look_steps}
 use Rattle.job_lanes.specs.Phases.{IsAwake, IsFree}
 
--- Which lanes they are, what the worker is known to have done, and what it does at the moment.
+-- Which lanes they are, what the worker is known to have done, and what it does at the moment. The
+-- deeds are what it did for other threads and with its calls, the latest first.
 pub record SleeperOf : Type 0 where
   pub id : LanesId
   pub known : WorkerRecord
   pub phase : Phase
+  pub deeds : List WakeDeed
 
 -- The same of a worker that finds jobs, and where it is between two calls.
 pub record FinderOf : Type 0 where
   pub id : LanesId
   pub known : WorkerRecord
   pub at : At
+  pub deeds : List WakeDeed
 
 -- The number of atomic steps that each round of `find` makes at most in one lane.
 abbrev pub find_steps : ℕ
@@ -36,9 +41,20 @@ pub record FindsNone (lanes steps : ℕ) (old new : WorkerRecord) : Type 0 where
   pub long : length new.lanes ≡ length old.lanes
   pub nothing : (k : ℕ) → k < lanes → TakesNothing steps (take_of k old) (take_of k new)
 
+-- It took the job in one round of all lanes from the lane `from` on: from the first lane where it
+-- could. Before that round and after it, it took none.
+pub record TakesInRound (lanes from steps lane : ℕ) (job : LaneJob) (old new : WorkerRecord) : Type 0
+  where
+    pub before : WorkerRecord
+    pub after : WorkerRecord
+    pub left : ℕ
+    pub first : FindsNone lanes steps old before
+    pub round : TakesAny lanes from before (AnyJob lane job left) after
+    pub last : FindsNone lanes steps after new
+
 -- It took one job, from this lane, and none in another. `left` accepted jobs come after it in that
 -- lane, as far as the worker knows.
-pub record FindsOne (lanes steps lane : ℕ) (job : LaneJob) (left : ℕ) (old new : WorkerRecord)
+pub record FindsOne (lanes from steps lane : ℕ) (job : LaneJob) (left : ℕ) (old new : WorkerRecord)
     : Type 0 where
   pub number : new.number ≡ old.number
   pub plan : new.plan ≡ old.plan
@@ -48,6 +64,8 @@ pub record FindsOne (lanes steps lane : ℕ) (job : LaneJob) (left : ℕ) (old n
   pub left_is : left ≡ (take_of lane new).tail - (job.seq + 1)
   pub others : (k : ℕ) → k < lanes → k ≢ lane → (take_of k new).taken ≡ (take_of k old).taken
   pub few : (k : ℕ) → k < lanes → (take_of k new).steps ≤ (take_of k old).steps + steps
+  -- It looked in the lanes from `from` on.
+  pub in_round : TakesInRound lanes from steps lane job old new
 
 -- What the worker found last in the lane is its end: all accepted jobs were taken, beside the
 -- closed mark.
@@ -64,13 +82,14 @@ SawOpen take =
 abbrev pub SawOneOpen : ℕ → WorkerRecord → Type 0
 SawOneOpen lanes known = (lane : ℕ) × (lane < lanes) × SawOpen (take_of lane known)
 
--- What `find` does to the worker's record.
-abbrev pub Finds : ℕ → ℕ → WorkerRecord → Found → WorkerRecord → Type 0
-Finds lanes steps old (Job lane job left) new = FindsOne lanes steps lane job left old new
-Finds lanes steps old Ended new =
+-- What `find` does to the worker's record, from this lane on.
+abbrev pub Finds : ℕ → ℕ → ℕ → WorkerRecord → Found → WorkerRecord → Type 0
+Finds lanes from steps old (Job lane job left) new =
+    FindsOne lanes from steps lane job left old new
+Finds lanes from steps old Ended new =
     FindsNone lanes steps old new × ((k : ℕ) → k < lanes → SawEnd (take_of k new))
-Finds lanes steps old Park new = FindsNone lanes steps old new
-Finds lanes steps old Again new = FindsNone lanes steps old new
+Finds lanes from steps old Park new = FindsNone lanes steps old new
+Finds lanes from steps old Again new = FindsNone lanes steps old new
 
 -- Where the worker is after it.
 abbrev pub StopsAt : Found → At → Type 0

@@ -62,7 +62,12 @@ impl Model for Finder {
 
     ghost Value = { FinderOf };
 
-    ghost view = { λ f. record { id = f.sleeper.id; known = f.sleeper.known; at = f.at } };
+    ghost view = { λ f. record {
+      id = f.sleeper.id;
+      known = f.sleeper.known;
+      at = f.at;
+      deeds = f.sleeper.deeds;
+    } };
 
     ghost invariant = { λ f. (f.sleeper.phase ≡ phase_of f.sleeper.id.plan f.at)
         × (f.sleeper.known.number < f.sleeper.id.plan.sleepers) };
@@ -74,6 +79,7 @@ impl Worker {
     pub fn into_finder(self) -> Result<Finder, Worker>
         ensures id { IfOk result (λ it. it.id ≡ self.id) }
         ensures known { IfOk result (λ it. it.known ≡ self.known) }
+        ensures deeds { IfOk result (λ it. it.deeds ≡ self.deeds) }
         ensures idle { IfOk result (λ it. it.at ≡ AtIdle) }
         ensures may_sleep { IfOk result (λ _. self.known.number < self.id.plan.sleepers) }
         ensures back { IfErr result (λ it. it ≡ self) }
@@ -94,6 +100,7 @@ impl Finder {
     pub fn into_worker(self) -> Result<Worker, Finder>
         ensures id { IfOk result (λ it. it.id ≡ self.id) }
         ensures known { IfOk result (λ it. it.known ≡ self.known) }
+        ensures deeds { IfOk result (λ it. it.deeds ≡ self.deeds) }
         ensures idle { IfOk result (λ _. self.at ≡ AtIdle) }
         ensures back { IfErr result (λ it. it ≡ self) }
         ensures not { IfErr result (λ _. self.at ≢ AtIdle) }

@@ -1,10 +1,11 @@
 // The loop of a worker that sleeps while there is no job, in rounds.
-ghost use Rattle.std.specs.Prelude.{ℕ, ◌≡◌, ◌≢◌, ◌⊎◌, ◌+◌, ◌*◌, ◌-◌, ◌<◌, true, false, IfSome};
+ghost use Rattle.std.specs.Prelude.{ℕ, ◌≡◌, ◌≢◌, ◌⊎◌, ◌+◌, ◌*◌, ◌-◌, ◌<◌, true, false, None, IfSome};
 ghost use Rattle.wake_pool.specs.declared.phase.WakePhase.TheVariants.{Idle, Searching, Found as HasFound, Returning, Reading, Parked};
 ghost use Rattle.wake_pool.specs.Schedule.{waking, looking, resting};
 ghost use Rattle.wake_pool.specs.Words.{word_count};
 ghost use Rattle.job_lanes.specs.declared.finder.At.TheVariants.{Waking as AtWaking, Parked as AtParked, Reading as AtReading};
 ghost use Rattle.job_lanes.specs.Record.{take_of};
+ghost use Rattle.job_lanes.specs.Deeds.{after_gift, and_given, given_in, has_call};
 ghost use Rattle.job_lanes.specs.Lanes.{look_steps};
 ghost use Rattle.job_lanes.specs.Phases.{phase_of, IsAwake, IsFree};
 ghost use Rattle.job_lanes.specs.Sleep.{FindsNone, Finds, SawOneOpen, StopsAt, IsNone, find_steps};
@@ -44,6 +45,7 @@ impl Lanes {
         requires id { sleeper.old.id ≡ self.now }
         requires phase { sleeper.old.phase ≡ resting self.now.plan.sizes.lanes 0 }
         ensures id { sleeper.new.id ≡ self.now }
+        ensures deeds { sleeper.new.deeds ≡ sleeper.old.deeds }
         ensures phase { sleeper.new.phase ≡ phase_of self.now.plan result }
         ensures awake { IsAwake result }
         ensures none { FindsNone self.now.plan.sizes.lanes look_steps
@@ -66,6 +68,7 @@ impl Lanes {
     fn may_lie_down(&self, sleeper: &mut Sleeper) -> bool
         requires id { sleeper.old.id ≡ self.now }
         ensures id { sleeper.new.id ≡ self.now }
+        ensures deeds { sleeper.new.deeds ≡ sleeper.old.deeds }
         ensures same { sleeper.new.phase ≡ sleeper.old.phase }
         ensures open { result ≡ true → SawOneOpen self.now.plan.sizes.lanes sleeper.new.known }
         ensures none { FindsNone self.now.plan.sizes.lanes look_steps
@@ -86,6 +89,7 @@ impl Lanes {
         requires id { sleeper.old.id ≡ self.now }
         requires phase { sleeper.old.phase ≡ looking self.now.plan.sizes.lanes 0 }
         ensures id { sleeper.new.id ≡ self.now }
+        ensures deeds { sleeper.new.deeds ≡ sleeper.old.deeds }
         ensures idle { result ≡ true → sleeper.new.phase ≡ Idle }
         ensures more { result ≡ false
             → sleeper.new.phase ≡ waking (word_count self.now.plan.sleepers) 0 }
@@ -107,6 +111,7 @@ impl Lanes {
         requires id { sleeper.old.id ≡ self.now }
         requires phase { sleeper.old.phase ≡ waking (word_count self.now.plan.sleepers) word }
         ensures id { sleeper.new.id ≡ self.now }
+        ensures deeds { sleeper.new.deeds ≡ after_gift result.1 sleeper.old.deeds }
         ensures phase { sleeper.new.phase ≡ phase_of self.now.plan result.0 }
         ensures free { IsFree result.0 }
         ensures known { sleeper.new.known ≡ sleeper.old.known }
@@ -128,6 +133,7 @@ impl Lanes {
         requires may_sleep { sleeper.old.known.number < self.now.plan.sleepers }
         requires phase { sleeper.old.phase ≡ HasFound }
         ensures id { sleeper.new.id ≡ self.now }
+        ensures deeds { sleeper.new.deeds ≡ after_gift result.1 sleeper.old.deeds }
         ensures phase { sleeper.new.phase ≡ phase_of self.now.plan result.0 }
         ensures free { IsFree result.0 }
         ensures none { FindsNone self.now.plan.sizes.lanes look_steps
@@ -158,11 +164,12 @@ impl Lanes {
         requires from { from < self.now.plan.sizes.lanes }
         requires phase { sleeper.old.phase ≡ Idle }
         ensures id { sleeper.new.id ≡ self.now }
+        ensures deeds { sleeper.new.deeds ≡ sleeper.old.deeds }
         ensures phase { sleeper.new.phase ≡ phase_of self.now.plan result.at }
         ensures at { StopsAt result.found result.at }
-        ensures finds { Finds self.now.plan.sizes.lanes find_steps
+        ensures finds { Finds self.now.plan.sizes.lanes from find_steps
             sleeper.old.known result.found sleeper.new.known }
-        ensures woken { IfSome result.woken (λ x. x < self.now.plan.sleepers) }
+        ensures nobody { result.woken ≡ None }
     {
         match self.take_round(sleeper, from, false) {
             TakenAny::AnyJob(lane, job, left) => Round {
@@ -198,9 +205,13 @@ impl Lanes {
         requires from { from < self.now.plan.sizes.lanes }
         requires phase { sleeper.old.phase ≡ Searching }
         ensures id { sleeper.new.id ≡ self.now }
+        ensures given { given_in sleeper.new.deeds
+            ≡ and_given result.woken (given_in sleeper.old.deeds) }
+        ensures calls { has_call sleeper.old.deeds ≡ false
+            → has_call sleeper.new.deeds ≡ false }
         ensures phase { sleeper.new.phase ≡ phase_of self.now.plan result.at }
         ensures at { StopsAt result.found result.at }
-        ensures finds { Finds self.now.plan.sizes.lanes find_steps
+        ensures finds { Finds self.now.plan.sizes.lanes from find_steps
             sleeper.old.known result.found sleeper.new.known }
         ensures woken { IfSome result.woken (λ x. x < self.now.plan.sleepers) }
     {
@@ -243,6 +254,7 @@ impl Lanes {
         requires may_sleep { sleeper.old.known.number < self.now.plan.sleepers }
         requires phase { sleeper.old.phase ≡ Returning }
         ensures id { sleeper.new.id ≡ self.now }
+        ensures deeds { sleeper.new.deeds ≡ sleeper.old.deeds }
         ensures phase { sleeper.new.phase ≡ phase_of self.now.plan result }
         ensures awake { IsAwake result }
         ensures known { sleeper.new.known ≡ sleeper.old.known }
@@ -260,6 +272,9 @@ impl Lanes {
         requires may_sleep { sleeper.old.known.number < self.now.plan.sleepers }
         requires phase { sleeper.old.phase ≡ Reading }
         ensures id { sleeper.new.id ≡ self.now }
+        ensures given { given_in sleeper.new.deeds ≡ given_in sleeper.old.deeds }
+        ensures calls { has_call sleeper.old.deeds ≡ false
+            → has_call sleeper.new.deeds ≡ false }
         ensures phase { sleeper.new.phase ≡ phase_of self.now.plan result }
         ensures known { sleeper.new.known ≡ sleeper.old.known }
     {
@@ -280,6 +295,7 @@ impl Lanes {
         requires may_sleep { sleeper.old.known.number < self.now.plan.sleepers }
         requires phase { sleeper.old.phase ≡ Parked }
         ensures id { sleeper.new.id ≡ self.now }
+        ensures deeds { sleeper.new.deeds ≡ sleeper.old.deeds }
         ensures phase { sleeper.new.phase ≡ phase_of self.now.plan result }
         ensures at { (result ≡ AtParked) ⊎ (result ≡ AtReading) }
         ensures known { sleeper.new.known ≡ sleeper.old.known }
@@ -296,9 +312,13 @@ impl Lanes {
         requires from { from < self.now.plan.sizes.lanes }
         requires phase { sleeper.old.phase ≡ phase_of self.now.plan at }
         ensures id { sleeper.new.id ≡ self.now }
+        ensures given { given_in sleeper.new.deeds
+            ≡ and_given result.woken (given_in sleeper.old.deeds) }
+        ensures calls { has_call sleeper.old.deeds ≡ false
+            → has_call sleeper.new.deeds ≡ false }
         ensures phase { sleeper.new.phase ≡ phase_of self.now.plan result.at }
         ensures at { StopsAt result.found result.at }
-        ensures finds { Finds self.now.plan.sizes.lanes find_steps
+        ensures finds { Finds self.now.plan.sizes.lanes from find_steps
             sleeper.old.known result.found sleeper.new.known }
         ensures woken { IfSome result.woken (λ x. x < self.now.plan.sleepers) }
     {
@@ -326,9 +346,13 @@ impl Lanes {
         requires from { from < self.now.plan.sizes.lanes }
         requires phase { sleeper.old.phase ≡ phase_of self.now.plan at }
         ensures id { sleeper.new.id ≡ self.now }
+        ensures given { given_in sleeper.new.deeds
+            ≡ and_given result.woken (given_in sleeper.old.deeds) }
+        ensures calls { has_call sleeper.old.deeds ≡ false
+            → has_call sleeper.new.deeds ≡ false }
         ensures phase { sleeper.new.phase ≡ phase_of self.now.plan result.at }
         ensures at { StopsAt result.found result.at }
-        ensures finds { Finds self.now.plan.sizes.lanes (tries * find_steps)
+        ensures finds { Finds self.now.plan.sizes.lanes from (tries * find_steps)
             sleeper.old.known result.found sleeper.new.known }
         ensures woken { IfSome result.woken (λ x. x < self.now.plan.sleepers) }
     {
@@ -354,7 +378,11 @@ impl Lanes {
         requires id { finder.old.id ≡ self.now }
         requires from { from < self.now.plan.sizes.lanes }
         ensures id { finder.new.id ≡ self.now }
-        ensures finds { Finds self.now.plan.sizes.lanes (tries * find_steps)
+        ensures given { given_in finder.new.deeds
+            ≡ and_given result.woken (given_in finder.old.deeds) }
+        ensures calls { has_call finder.old.deeds ≡ false
+            → has_call finder.new.deeds ≡ false }
+        ensures finds { Finds self.now.plan.sizes.lanes from (tries * find_steps)
             finder.old.known result.found finder.new.known }
         ensures at { StopsAt result.found finder.new.at }
         ensures woken { IfSome result.woken (λ x. x < self.now.plan.sleepers) }
@@ -373,6 +401,7 @@ impl Lanes {
     pub fn wake_more(&self, finder: &mut Finder, tries: u32) -> Option<u32>
         requires { finder.old.id ≡ self.now }
         ensures id { finder.new.id ≡ self.now }
+        ensures deeds { finder.new.deeds ≡ after_gift result finder.old.deeds }
         ensures known { finder.new.known ≡ finder.old.known }
         ensures free { IsFree finder.old.at → IsFree finder.new.at }
         ensures other { ((word : ℕ) → finder.old.at ≢ AtWaking word)
@@ -392,6 +421,7 @@ impl Lanes {
     pub fn awake(&self, finder: &mut Finder) -> bool
         requires { finder.old.id ≡ self.now }
         ensures id { finder.new.id ≡ self.now }
+        ensures deeds { finder.new.deeds ≡ finder.old.deeds }
         ensures known { finder.new.known ≡ finder.old.known }
         ensures parks { result ≡ false → finder.new.at ≡ AtParked }
         ensures awake { result ≡ true → IsAwake finder.new.at }

@@ -64,6 +64,7 @@ impl Model for Lane {
       id = record { table = l.seat.table_id; plan = l.plan };
       known = lane_in l.seat.me.0.known.lanes;
       next = l.next;
+      deeds = l.seat.me.0.deeds;
     } };
 
     ghost invariant = { λ l. IsLane l.plan l.number l.seen (known_sat l.seat.me)
@@ -84,7 +85,11 @@ impl Model for Worker {
 
     ghost Value = { WorkerOf };
 
-    ghost view = { λ w. record { id = w.sleeper.id; known = w.sleeper.known } };
+    ghost view = { λ w. record {
+      id = w.sleeper.id;
+      known = w.sleeper.known;
+      deeds = w.sleeper.deeds;
+    } };
 
     ghost invariant = { λ w. w.sleeper.phase ≡ Idle };
 }

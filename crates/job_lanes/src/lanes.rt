@@ -1,5 +1,5 @@
 // The lanes: they are opened, and their handles are dealt out.
-ghost use Rattle.std.specs.Prelude.{◌≡◌, ◌+◌, ◌<◌, ◌≤◌, IfOk, OnErr, length, replicate};
+ghost use Rattle.std.specs.Prelude.{◌≡◌, ◌+◌, ◌<◌, ◌≤◌, [], IfOk, OnErr, length, replicate};
 ghost use Rattle.wake_pool.specs.declared.phase.WakePhase.TheVariants.{Idle};
 ghost use Rattle.wake_pool.specs.Words.{base};
 ghost use Rattle.wake_pool.specs.Words as sleepers;
@@ -178,6 +178,7 @@ impl Lanes {
         ensures id { result.id ≡ self.now }
         ensures fresh { result.known
             ≡ fresh_lane self.now.plan.sizes.capacity members.old.dealt_lanes }
+        ensures no_deeds { result.deeds ≡ [] }
         ensures next { result.next ≡ sleepers.word_count self.now.plan.sleepers }
         ensures lanes { members.new.dealt_lanes ≡ members.old.dealt_lanes + 1 }
         ensures workers { members.new.dealt_workers ≡ members.old.dealt_workers }
@@ -203,6 +204,7 @@ impl Lanes {
         ensures id { IfOk result (λ worker. worker.id ≡ self.now) }
         ensures fresh { IfOk result (λ worker. worker.known
             ≡ fresh_worker self.now.plan members.old.dealt_workers) }
+        ensures no_deeds { IfOk result (λ worker. worker.deeds ≡ []) }
         ensures workers { IfOk result (λ _. members.new.dealt_workers
             ≡ members.old.dealt_workers + 1) }
         ensures lanes { members.new.dealt_lanes ≡ members.old.dealt_lanes }
@@ -242,6 +244,7 @@ impl Lanes {
         ensures members { members.new.id ≡ self.now }
         ensures id { result.id ≡ self.now }
         ensures fresh { result.known ≡ fresh_worker self.now.plan members.old.dealt_workers }
+        ensures no_deeds { result.deeds ≡ [] }
         ensures workers { members.new.dealt_workers ≡ members.old.dealt_workers + 1 }
         ensures lanes { members.new.dealt_lanes ≡ members.old.dealt_lanes }
     {
@@ -258,6 +261,7 @@ impl Lanes {
         ensures id { result.id ≡ self.now }
         ensures idle { result.phase ≡ Idle }
         ensures fresh { result.known ≡ fresh_worker self.now.plan members.old.dealt_workers }
+        ensures no_deeds { result.deeds ≡ [] }
         ensures workers { members.new.dealt_workers ≡ members.old.dealt_workers + 1 }
         ensures lanes { members.new.dealt_lanes ≡ members.old.dealt_lanes }
     {

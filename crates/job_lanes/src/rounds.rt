@@ -47,6 +47,7 @@ impl Lanes {
         requires id { worker.old.id ≡ self.now }
         requires lane { lane < self.now.plan.sizes.lanes }
         ensures id { worker.new.id ≡ self.now }
+        ensures deeds { worker.new.deeds ≡ worker.old.deeds }
         ensures only { ChangesOnly lane worker.old.known worker.new.known }
         ensures looks { Looks (take_of lane worker.old.known) result
             (take_of lane worker.new.known) }
@@ -60,6 +61,7 @@ impl Lanes {
         requires id { sleeper.old.id ≡ self.now }
         requires lane { lane < self.now.plan.sizes.lanes }
         ensures id { sleeper.new.id ≡ self.now }
+        ensures deeds { sleeper.new.deeds ≡ sleeper.old.deeds }
         ensures same { sleeper.new.phase ≡ sleeper.old.phase }
         ensures only { ChangesOnly lane sleeper.old.known sleeper.new.known }
         ensures looks { Looks (take_of lane sleeper.old.known) result
@@ -80,6 +82,7 @@ impl Lanes {
         requires id { worker.old.id ≡ self.now }
         requires from { from < self.now.plan.sizes.lanes }
         ensures id { worker.new.id ≡ self.now }
+        ensures deeds { worker.new.deeds ≡ worker.old.deeds }
         ensures takes { TakesAny self.now.plan.sizes.lanes from worker.old.known result
             worker.new.known }
         ensures keeps { TakeAnyKeeps self.now.plan.sizes.lanes worker.old.known worker.new.known }

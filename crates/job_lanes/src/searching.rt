@@ -22,6 +22,7 @@ impl Lanes {
         requires id { sleeper.old.id ≡ self.now }
         requires lane { lane < self.now.plan.sizes.lanes }
         ensures id { sleeper.new.id ≡ self.now }
+        ensures deeds { sleeper.new.deeds ≡ sleeper.old.deeds }
         ensures same { sleeper.new.phase ≡ sleeper.old.phase }
         ensures only { ChangesOnly lane sleeper.old.known sleeper.new.known }
         ensures take { take_of lane sleeper.new.known
@@ -38,6 +39,7 @@ impl Lanes {
         requires lane { lane < self.now.plan.sizes.lanes }
         requires head { head ≡ (take_of lane sleeper.old.known).head }
         ensures id { sleeper.new.id ≡ self.now }
+        ensures deeds { sleeper.new.deeds ≡ sleeper.old.deeds }
         ensures same { sleeper.new.phase ≡ sleeper.old.phase }
         ensures only { ChangesOnly lane sleeper.old.known sleeper.new.known }
         ensures some { IfOk result (λ count. (head < count)
@@ -62,6 +64,7 @@ impl Lanes {
         requires lane { lane < self.now.plan.sizes.lanes }
         requires head { head ≡ (take_of lane sleeper.old.known).head }
         ensures id { sleeper.new.id ≡ self.now }
+        ensures deeds { sleeper.new.deeds ≡ sleeper.old.deeds }
         ensures same { sleeper.new.phase ≡ sleeper.old.phase }
         ensures only { ChangesOnly lane sleeper.old.known sleeper.new.known }
         ensures some { IfOk result (λ count. (head < count)
@@ -89,6 +92,7 @@ impl Lanes {
         requires head { head ≡ (take_of lane sleeper.old.known).head }
         requires some { head < (take_of lane sleeper.old.known).tail }
         ensures id { sleeper.new.id ≡ self.now }
+        ensures deeds { sleeper.new.deeds ≡ sleeper.old.deeds }
         ensures same { sleeper.new.phase ≡ sleeper.old.phase }
         ensures only { ChangesOnly lane sleeper.old.known sleeper.new.known }
         ensures take { take_of lane sleeper.new.known
@@ -109,6 +113,7 @@ impl Lanes {
         requires head { head ≡ (take_of lane sleeper.old.known).head }
         requires some { head < (take_of lane sleeper.old.known).tail }
         ensures id { sleeper.new.id ≡ self.now }
+        ensures deeds { sleeper.new.deeds ≡ sleeper.old.deeds }
         ensures same { sleeper.new.phase ≡ sleeper.old.phase }
         ensures only { ChangesOnly lane sleeper.old.known sleeper.new.known }
         ensures take { take_of lane sleeper.new.known
@@ -129,6 +134,7 @@ impl Lanes {
         requires dim { (take_of lane sleeper.old.known).dim ≡ Some job.dim }
         requires small { job.seq + 1 < 2 ^ 64 }
         ensures id { sleeper.new.id ≡ self.now }
+        ensures deeds { sleeper.new.deeds ≡ sleeper.old.deeds }
         ensures phase { MatchBool result (sleeper.new.phase ≡ Found)
             (sleeper.new.phase ≡ Searching) }
         ensures only { ChangesOnly lane sleeper.old.known sleeper.new.known }
@@ -155,6 +161,7 @@ impl Lanes {
         requires dim { (take_of lane sleeper.old.known).dim ≡ Some job.dim }
         requires small { job.seq + 1 < 2 ^ 64 }
         ensures id { sleeper.new.id ≡ self.now }
+        ensures deeds { sleeper.new.deeds ≡ sleeper.old.deeds }
         ensures phase { sleeper.new.phase ≡ Idle }
         ensures only { ChangesOnly lane sleeper.old.known sleeper.new.known }
         ensures take { MatchBool result
@@ -180,6 +187,7 @@ impl Lanes {
         requires dim { (take_of lane sleeper.old.known).dim ≡ Some job.dim }
         requires small { job.seq + 1 < 2 ^ 64 }
         ensures id { sleeper.new.id ≡ self.now }
+        ensures deeds { sleeper.new.deeds ≡ sleeper.old.deeds }
         ensures phase { MatchBool result (sleeper.new.phase ≡ done_phase searches)
             (sleeper.new.phase ≡ ready_phase searches) }
         ensures only { ChangesOnly lane sleeper.old.known sleeper.new.known }
@@ -202,6 +210,7 @@ impl Lanes {
         requires phase { sleeper.old.phase ≡ ready_phase searches }
         requires lane { lane < self.now.plan.sizes.lanes }
         ensures id { sleeper.new.id ≡ self.now }
+        ensures deeds { sleeper.new.deeds ≡ sleeper.old.deeds }
         ensures phase { sleeper.new.phase ≡ taken_phase searches result }
         ensures only { ChangesOnly lane sleeper.old.known sleeper.new.known }
         ensures takes { Takes (take_of lane sleeper.old.known) result
@@ -238,6 +247,7 @@ impl Lanes {
         requires phase { sleeper.old.phase ≡ Searching }
         requires lane { lane < self.now.plan.sizes.lanes }
         ensures id { sleeper.new.id ≡ self.now }
+        ensures deeds { sleeper.new.deeds ≡ sleeper.old.deeds }
         ensures phase { sleeper.new.phase ≡ taken_phase true result }
         ensures only { ChangesOnly lane sleeper.old.known sleeper.new.known }
         ensures takes { Takes (take_of lane sleeper.old.known) result
@@ -261,6 +271,7 @@ impl Lanes {
         requires phase { sleeper.old.phase ≡ ready_phase searches }
         requires lane { lane < self.now.plan.sizes.lanes }
         ensures id { sleeper.new.id ≡ self.now }
+        ensures deeds { sleeper.new.deeds ≡ sleeper.old.deeds }
         ensures only { ChangesOnly lane sleeper.old.known sleeper.new.known }
         ensures found { IfSome result (λ _. sleeper.new.phase ≡ done_phase searches) }
         ensures same { IfNone result (sleeper.new.phase ≡ ready_phase searches) }
@@ -289,6 +300,7 @@ impl Lanes {
         requires phase { sleeper.old.phase ≡ ready_phase searches }
         requires from { from < self.now.plan.sizes.lanes }
         ensures id { sleeper.new.id ≡ self.now }
+        ensures deeds { sleeper.new.deeds ≡ sleeper.old.deeds }
         ensures phase { sleeper.new.phase ≡ round_phase searches result }
         ensures takes { TakesAny self.now.plan.sizes.lanes from sleeper.old.known result
             sleeper.new.known }

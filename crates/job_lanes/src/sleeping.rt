@@ -1,8 +1,9 @@
 // A worker that may sleep: each call of `wake_calls`, of one atomic step, for the seat of a worker.
-ghost use Rattle.std.specs.Prelude.{ℕ, ◌≡◌, ◌+◌, ◌<◌, ◌≤◌, true, false};
+ghost use Rattle.std.specs.Prelude.{ℕ, ◌≡◌, ◌≢◌, ◌∷◌, ◌+◌, ◌<◌, ◌≤◌, true, false};
 ghost use Rattle.wake_pool.specs.declared.phase.WakePhase.TheVariants.{Idle, Waking, Looking, Giving, Calling, Searching, Found, Resting, Returning, Reading, Parked};
 ghost use Rattle.wake_pool.specs.Schedule.{waking, looking, resting};
 ghost use Rattle.wake_pool.specs.Words.{word_count, world_of};
+ghost use Rattle.wake_calls.specs.declared.deed.WakeDeed.TheVariants.{Gave, RoseForCall, TookCall};
 ghost use Rattle.wake_calls.specs.declared.sleeping.Back.TheVariants.{Searches, Stays, Again};
 ghost use Rattle.wake_calls.specs.declared.sleeping.Asleep.TheVariants.{Call, CallOfSearcher, Woken, Park};
 ghost use Rattle.wake_calls.specs.declared.waking.Wake.TheVariants.{Nobody, Worker as WokenWorker, Again as WakeAgain};
@@ -42,6 +43,7 @@ impl Model for Sleeper {
       id = record { table = w.seat.table_id; plan = w.plan };
       known = worker_in w.seat.me.0.known.workers;
       phase = phase_in w.seat.me.0.sleepers;
+      deeds = w.seat.me.0.deeds;
     } };
 
     ghost invariant = { λ w. IsWorker w.plan w.number w.tails.items (known_sat w.seat.me)
@@ -53,6 +55,7 @@ impl Worker {
     pub fn into_sleeper(self) -> Sleeper
         ensures id { result.id ≡ self.id }
         ensures known { result.known ≡ self.known }
+        ensures deeds { result.deeds ≡ self.deeds }
         ensures idle { result.phase ≡ Idle }
     {
         let Worker { sleeper } = self;
@@ -93,6 +96,7 @@ impl Sleeper {
         requires { self.phase ≡ Idle }
         ensures id { result.id ≡ self.id }
         ensures known { result.known ≡ self.known }
+        ensures deeds { result.deeds ≡ self.deeds }
     {
         Worker { sleeper: self }
     }
@@ -105,6 +109,7 @@ impl Lanes {
         requires may_sleep { sleeper.old.known.number < self.now.plan.sleepers }
         requires phase { sleeper.old.phase ≡ Idle }
         ensures id { sleeper.new.id ≡ self.now }
+        ensures deeds { sleeper.new.deeds ≡ sleeper.old.deeds }
         ensures known { sleeper.new.known ≡ sleeper.old.known }
         ensures searches { result ≡ true → sleeper.new.phase ≡ Searching }
         ensures other { result ≡ false → sleeper.new.phase ≡ Idle }
@@ -124,6 +129,7 @@ impl Lanes {
         requires may_sleep { sleeper.old.known.number < self.now.plan.sleepers }
         requires phase { sleeper.old.phase ≡ Idle }
         ensures id { sleeper.new.id ≡ self.now }
+        ensures deeds { sleeper.new.deeds ≡ sleeper.old.deeds }
         ensures known { sleeper.new.known ≡ sleeper.old.known }
         ensures rests { sleeper.new.phase ≡ resting self.now.plan.sizes.lanes 0 }
     {
@@ -142,6 +148,7 @@ impl Lanes {
         requires may_sleep { sleeper.old.known.number < self.now.plan.sleepers }
         requires phase { sleeper.old.phase ≡ Searching }
         ensures id { sleeper.new.id ≡ self.now }
+        ensures deeds { sleeper.new.deeds ≡ sleeper.old.deeds }
         ensures known { sleeper.new.known ≡ sleeper.old.known }
         ensures rests { sleeper.new.phase ≡ resting self.now.plan.sizes.lanes 0 }
     {
@@ -160,6 +167,7 @@ impl Lanes {
         requires may_sleep { sleeper.old.known.number < self.now.plan.sleepers }
         requires phase { sleeper.old.phase ≡ Found }
         ensures id { sleeper.new.id ≡ self.now }
+        ensures deeds { sleeper.new.deeds ≡ sleeper.old.deeds }
         ensures known { sleeper.new.known ≡ sleeper.old.known }
         ensures looks { sleeper.new.phase ≡ looking self.now.plan.sizes.lanes 0 }
     {
@@ -179,6 +187,7 @@ impl Lanes {
         requires head { head ≡ (take_of lane sleeper.old.known).head }
         requires looks { LooksAt sleeper.old.phase lane }
         ensures id { sleeper.new.id ≡ self.now }
+        ensures deeds { sleeper.new.deeds ≡ sleeper.old.deeds }
         ensures only { ChangesOnly lane sleeper.old.known sleeper.new.known }
         ensures phase { sleeper.new.phase ≡ looked self.now.plan sleeper.old.phase result }
         ensures none { TakesNothing 1 (take_of lane sleeper.old.known)
@@ -202,6 +211,7 @@ impl Lanes {
         requires lane { lane < self.now.plan.sizes.lanes }
         requires phase { sleeper.old.phase ≡ Resting lane }
         ensures id { sleeper.new.id ≡ self.now }
+        ensures deeds { sleeper.new.deeds ≡ sleeper.old.deeds }
         ensures only { ChangesOnly lane sleeper.old.known sleeper.new.known }
         ensures empty { result ≡ true → sleeper.new.phase
             ≡ resting self.now.plan.sizes.lanes (lane + 1) }
@@ -221,6 +231,7 @@ impl Lanes {
         requires lane { lane < self.now.plan.sizes.lanes }
         requires phase { sleeper.old.phase ≡ Looking lane }
         ensures id { sleeper.new.id ≡ self.now }
+        ensures deeds { sleeper.new.deeds ≡ sleeper.old.deeds }
         ensures only { ChangesOnly lane sleeper.old.known sleeper.new.known }
         ensures empty { result ≡ true → sleeper.new.phase
             ≡ looking self.now.plan.sizes.lanes (lane + 1) }
@@ -239,6 +250,7 @@ impl Lanes {
         requires may_sleep { sleeper.old.known.number < self.now.plan.sleepers }
         requires phase { sleeper.old.phase ≡ Returning }
         ensures id { sleeper.new.id ≡ self.now }
+        ensures deeds { sleeper.new.deeds ≡ sleeper.old.deeds }
         ensures known { sleeper.new.known ≡ sleeper.old.known }
         ensures searches { result ≡ Searches → sleeper.new.phase ≡ Searching }
         ensures stays { result ≡ Stays → sleeper.new.phase ≡ Reading }
@@ -260,6 +272,8 @@ impl Lanes {
         requires may_sleep { sleeper.old.known.number < self.now.plan.sleepers }
         requires phase { sleeper.old.phase ≡ Reading }
         ensures id { sleeper.new.id ≡ self.now }
+        ensures rose { result ≡ Call → sleeper.new.deeds ≡ RoseForCall ∷ sleeper.old.deeds }
+        ensures deeds { result ≢ Call → sleeper.new.deeds ≡ sleeper.old.deeds }
         ensures known { sleeper.new.known ≡ sleeper.old.known }
         ensures call { result ≡ Call → sleeper.new.phase ≡ Idle }
         ensures call_of_searcher { result ≡ CallOfSearcher → sleeper.new.phase ≡ Found }
@@ -281,6 +295,7 @@ impl Lanes {
         requires may_sleep { sleeper.old.known.number < self.now.plan.sleepers }
         requires phase { sleeper.old.phase ≡ Parked }
         ensures id { sleeper.new.id ≡ self.now }
+        ensures deeds { sleeper.new.deeds ≡ sleeper.old.deeds }
         ensures known { sleeper.new.known ≡ sleeper.old.known }
         ensures awake { result ≡ true → sleeper.new.phase ≡ Reading }
         ensures not { result ≡ false → sleeper.new.phase ≡ Parked }
@@ -300,6 +315,7 @@ impl Lanes {
         requires may_sleep { sleeper.old.known.number < self.now.plan.sleepers }
         requires phase { sleeper.old.phase ≡ Idle }
         ensures id { sleeper.new.id ≡ self.now }
+        ensures deeds { sleeper.new.deeds ≡ TookCall ∷ sleeper.old.deeds }
         ensures known { sleeper.new.known ≡ sleeper.old.known }
         ensures same { sleeper.new.phase ≡ Idle }
     {
@@ -318,6 +334,7 @@ impl Lanes {
         requires may_sleep { sleeper.old.known.number < self.now.plan.sleepers }
         requires phase { sleeper.old.phase ≡ Searching }
         ensures id { sleeper.new.id ≡ self.now }
+        ensures deeds { sleeper.new.deeds ≡ TookCall ∷ sleeper.old.deeds }
         ensures known { sleeper.new.known ≡ sleeper.old.known }
         ensures found { sleeper.new.phase ≡ Found }
     {
@@ -336,6 +353,7 @@ impl Lanes {
         requires id { sleeper.old.id ≡ self.now }
         requires phase { sleeper.old.phase ≡ (waking (word_count self.now.plan.sleepers) word) }
         ensures id { sleeper.new.id ≡ self.now }
+        ensures deeds { sleeper.new.deeds ≡ sleeper.old.deeds }
         ensures known { sleeper.new.known ≡ sleeper.old.known }
         ensures nobody { result ≡ Nobody → sleeper.new.phase ≡ Idle }
         ensures woken { (x : ℕ) → result ≡ WokenWorker x → sleeper.new.phase ≡ Giving x }
@@ -366,6 +384,7 @@ impl Lanes {
         requires phase { sleeper.old.phase ≡ (Giving to) }
         requires to { to < self.now.plan.sleepers }
         ensures id { sleeper.new.id ≡ self.now }
+        ensures deeds { sleeper.new.deeds ≡ Gave to ∷ sleeper.old.deeds }
         ensures known { sleeper.new.known ≡ sleeper.old.known }
         ensures idle { sleeper.new.phase ≡ Idle }
     {
@@ -379,6 +398,7 @@ impl Lanes {
         requires phase { sleeper.old.phase ≡ Idle }
         requires to { to < self.now.plan.sleepers }
         ensures id { sleeper.new.id ≡ self.now }
+        ensures deeds { sleeper.new.deeds ≡ sleeper.old.deeds }
         ensures known { sleeper.new.known ≡ sleeper.old.known }
         ensures calls { sleeper.new.phase ≡ Calling to }
     {
@@ -393,6 +413,7 @@ impl Lanes {
         requires phase { sleeper.old.phase ≡ (Calling to) }
         requires to { to < self.now.plan.sleepers }
         ensures id { sleeper.new.id ≡ self.now }
+        ensures deeds { sleeper.new.deeds ≡ sleeper.old.deeds }
         ensures known { sleeper.new.known ≡ sleeper.old.known }
         ensures sleeps { result ≡ true → sleeper.new.phase ≡ Giving to }
         ensures awake { result ≡ false → sleeper.new.phase ≡ Idle }

@@ -2,6 +2,7 @@
 ghost use Rattle.std.specs.Prelude.{◌≡◌, ℕ, ◌+◌, ◌^◌, ◌<◌, ◌≤◌, ◌⊎◌, Some, length, MatchBool, IfOk, IfErr};
 ghost use Rattle.job_lanes.specs.Layout.{cell_of, lane_words};
 ghost use Rattle.job_lanes.specs.Record.{after_count, after_full, after_room, after_payload, after_dim, after_accept, after_refusal};
+ghost use Rattle.job_lanes.specs.Deeds.{after_wake};
 ghost use Rattle.job_lanes.specs.Lanes.{Submits, SubmitKeeps, LooksNext};
 ghost use Rattle.wake_pool.specs.Words as sleepers;
 ghost use Rattle.wake_calls.specs.declared.waking.Wake.TheVariants.{Nobody, Worker as WokenWorker, Again as WakeAgain};
@@ -31,6 +32,7 @@ impl Lanes {
     pub(crate) fn read_count(&self, lane: &mut Lane) -> Result<u64, u64>
         requires { lane.old.id ≡ self.now }
         ensures id { lane.new.id ≡ self.now }
+        ensures deeds { lane.new.deeds ≡ lane.old.deeds }
         ensures open { IfOk result (λ count. (lane.new.known ≡ after_count lane.old.known)
             × (count ≡ length lane.old.known.accepted)) }
         ensures closed { IfErr result (λ count. lane.new.known
@@ -53,6 +55,7 @@ impl Lanes {
         requires count { count ≡ length lane.old.known.accepted }
         requires unspent { count < MAX_JOBS }
         ensures id { lane.new.id ≡ self.now }
+        ensures deeds { lane.new.deeds ≡ lane.old.deeds }
         ensures known { MatchBool result
             ((lane.new.known ≡ lane.old.known)
             ⊎ ((taken : ℕ) × (lane.new.known ≡ after_room taken lane.old.known)))
@@ -74,6 +77,7 @@ impl Lanes {
         requires count { count ≡ length lane.old.known.accepted }
         requires unspent { count < MAX_JOBS }
         ensures id { lane.new.id ≡ self.now }
+        ensures deeds { lane.new.deeds ≡ lane.old.deeds }
         ensures known { MatchBool result
             ((taken : ℕ) × (lane.new.known ≡ after_room taken lane.old.known))
             ((taken : ℕ) × (count ≡ taken + lane.old.known.capacity)
@@ -100,6 +104,7 @@ impl Lanes {
         requires inside { cell + 1 < lane_words self.now.plan.sizes.capacity }
         requires room { count < lane.old.known.seen + lane.old.known.capacity }
         ensures id { lane.new.id ≡ self.now }
+        ensures deeds { lane.new.deeds ≡ lane.old.deeds }
         ensures known { lane.new.known ≡ after_payload payload lane.old.known }
         ensures next { lane.new.next ≡ lane.old.next }
     {
@@ -117,6 +122,7 @@ impl Lanes {
         requires inside { cell + 1 < lane_words self.now.plan.sizes.capacity }
         requires room { count < lane.old.known.seen + lane.old.known.capacity }
         ensures id { lane.new.id ≡ self.now }
+        ensures deeds { lane.new.deeds ≡ lane.old.deeds }
         ensures known { lane.new.known ≡ after_dim dim lane.old.known }
         ensures next { lane.new.next ≡ lane.old.next }
     {
@@ -134,6 +140,7 @@ impl Lanes {
         requires dim { lane.old.known.dim ≡ Some _dim }
         requires unspent { count < MAX_JOBS }
         ensures id { lane.new.id ≡ self.now }
+        ensures deeds { lane.new.deeds ≡ lane.old.deeds }
         ensures known { MatchBool result
             (lane.new.known ≡ after_accept _payload _dim lane.old.known)
             ((found : ℕ) × (lane.new.known ≡ after_refusal found lane.old.known)) }
@@ -156,6 +163,7 @@ impl Lanes {
     pub fn submit(&self, lane: &mut Lane, payload: u64, dim: u32) -> Submitted
         requires { lane.old.id ≡ self.now }
         ensures id { lane.new.id ≡ self.now }
+        ensures deeds { lane.new.deeds ≡ lane.old.deeds }
         ensures known { Submits payload dim lane.old.known result lane.new.known }
         ensures keeps { SubmitKeeps lane.old.known lane.new.known }
         ensures next { LooksNext result lane.old.next lane.new.next }
@@ -185,6 +193,7 @@ impl Lanes {
     pub fn wake_one(&self, lane: &mut Lane, tries: u32) -> Wake
         requires id { lane.old.id ≡ self.now }
         ensures id { lane.new.id ≡ self.now }
+        ensures deeds { lane.new.deeds ≡ after_wake result lane.old.deeds }
         ensures known { lane.new.known ≡ lane.old.known }
         ensures worker { (x : ℕ) → result ≡ WokenWorker x → x < self.now.plan.sleepers }
         ensures nobody { result ≡ Nobody → lane.new.next

@@ -2,7 +2,7 @@
 use crate::record::{LaneRecord, WorkerRecord};
 use crate::sizes::Plan;
 use std::collections::LinkedList;
-use wake_calls::ThreadRecord;
+use wake_calls::{ThreadRecord, WakeDeed};
 
 // Where the closer has closed each lane: the number of accepted jobs.
 pub struct CloserRecord {
@@ -17,9 +17,11 @@ pub struct View {
     pub closers: LinkedList<CloserRecord>,
 }
 
-// The same, and the threads whose steps the seat makes: workers, and other threads.
+// The same, and the threads whose steps the seat makes: workers, and other threads. It has their
+// deeds, the newest first.
 pub struct Both {
     pub known: View,
     pub sleepers: LinkedList<ThreadRecord>,
     pub others: LinkedList<ThreadRecord>,
+    pub deeds: LinkedList<WakeDeed>,
 }

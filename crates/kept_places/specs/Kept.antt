@@ -14,13 +14,14 @@ new_lane id number = record {
     id = id;
     known = fresh_lane id.plan.sizes.capacity number;
     next = word_count id.plan.sleepers;
+    deeds = [];
   };
 }
 
 -- The worker with this number, of which nothing was asked.
 abbrev pub new_worker : LanesId → ℕ → KeptWorker
 new_worker id number = record {
-  worker = record { id = id; known = fresh_worker id.plan number };
+  worker = record { id = id; known = fresh_worker id.plan number; deeds = [] };
 }
 
 -- Each of the first places has its new lane.

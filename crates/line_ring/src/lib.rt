@@ -20,4 +20,4 @@ mod rule;
 pub use handle::{RingEnd, RingLane, RingPass};
 pub use piece::Piece;
 pub use record::{LaneRecord, PassRecord, RestRecord};
-pub use ring::{DidPut, Ring, SawEmpty, SawFull};
+pub use ring::{DidPut, Ring, SawEmpty, SawFull, WasEmpty};

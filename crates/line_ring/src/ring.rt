@@ -64,6 +64,11 @@ impl<E> Model for SawFull<E> {
 /// A token of a pop that found the ring empty. Only `Ring::pop` makes it, and it cannot be dropped.
 pub struct SawEmpty(());
 
+/// A token of a pop that found the ring empty, once it was consumed. Only `SawEmpty::spend` makes
+/// it, and it may be dropped.
+#[derive(Debug, Drop)]
+pub struct WasEmpty(());
+
 impl<E> DidPut<E> {
     /// Returns the entry that the piece came with.
     pub fn into_entry(self) -> E
@@ -85,9 +90,10 @@ impl<E> SawFull<E> {
 }
 
 impl SawEmpty {
-    /// Consumes the token.
-    pub fn spend(self) {
+    /// Consumes the token. Returns one that may be dropped.
+    pub fn spend(self) -> WasEmpty {
         let SawEmpty(()) = self;
+        WasEmpty(())
     }
 }
 

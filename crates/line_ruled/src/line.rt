@@ -8,7 +8,7 @@ ghost use Rattle.line_ruled.specs.Inner.Join.{Puts};
 use job_queue::{QueuedJob, Receipt};
 use job_types::{Job, JobId};
 use line_gate::{Entered, Gate, GateLane, GatePass, Pushed, Witness};
-use line_ring::{DidPut, Ring, RingLane, RingPass, SawEmpty, SawFull};
+use line_ring::{DidPut, Ring, RingLane, RingPass, SawEmpty, SawFull, WasEmpty};
 use std::sync::Wait;
 
 // The gate of a `RuledLine`.
@@ -56,9 +56,9 @@ impl Witness for RingWasEmpty {
 pub(crate) struct Sealed(());
 
 /// A token that shows that a `RuledLine` has ended. Only a pop makes one, if it found the ring
-/// empty after the gate was read as sealed.
+/// empty after the gate was read as sealed. It has the token of that pop.
 #[derive(Debug, Drop)]
-pub struct RuledEnd(());
+pub struct RuledEnd(WasEmpty);
 
 /// A lock-free queue of jobs: a ring in which the jobs wait, and a gate that counts the entries.
 pub struct RuledLine {
@@ -142,10 +142,7 @@ impl RuledLine {
         let Sealed(()) = sealed;
         match self.ring.pop(rt, ring) {
             Ok(queued) => Ok(queued),
-            Err(saw) => {
-                saw.spend();
-                Err(RuledEnd(()))
-            }
+            Err(saw) => Err(RuledEnd(saw.spend())),
         }
     }
 }

@@ -27,12 +27,12 @@ use Rattle.region_shop.proofs.NextLemmas.{kept_before}
 
 -- ---- a look in the lanes
 
-module _ (lanes steps : ℕ) (old new : WorkerRecord) (long : length old.lanes ≡ lanes) where
+module _ (lanes from steps : ℕ) (old new : WorkerRecord) (long : length old.lanes ≡ lanes) where
   none : FindsNone lanes steps old new → Gains [] old new
   none f = gains_no_job old new (all_taken lanes old new long f.long (λ k low. (f.nothing k low).0))
 
   pub gained : (found : Found)
-      → Finds lanes steps old found new
+      → Finds lanes from steps old found new
       → Gains (kept_list (found_job found)) old new
   gained (Job lane job left) f = gains_job lane job old new f.taken (others_taken lanes old new long f.long lane f.others)
   gained LanesEnded f = none f.0
@@ -45,7 +45,7 @@ module _ (lanes steps : ℕ) (old new : WorkerRecord) (long : length old.lanes �
   few_none f = all_steps lanes old new long f.long steps (λ k low. (f.nothing k low).1)
 
   pub few : (found : Found)
-      → Finds lanes steps old found new
+      → Finds lanes from steps old found new
       → (k : ℕ)
       → (take_of k new).steps ≤ (take_of k old).steps + steps
   few (Job lane job left) f = all_steps lanes old new long f.long steps f.few
@@ -53,29 +53,29 @@ module _ (lanes steps : ℕ) (old new : WorkerRecord) (long : length old.lanes �
   few LanesPark f = few_none f
   few LanesAgain f = few_none f
 
-pub same_number : (lanes steps : ℕ) (old new : WorkerRecord) (found : Found)
-    → Finds lanes steps old found new
+pub same_number : (lanes from steps : ℕ) (old new : WorkerRecord) (found : Found)
+    → Finds lanes from steps old found new
     → new.number ≡ old.number
-same_number lanes steps old new (Job lane job left) f = f.number
-same_number lanes steps old new LanesEnded f = f.0.number
-same_number lanes steps old new LanesPark f = f.number
-same_number lanes steps old new LanesAgain f = f.number
+same_number lanes from steps old new (Job lane job left) f = f.number
+same_number lanes from steps old new LanesEnded f = f.0.number
+same_number lanes from steps old new LanesPark f = f.number
+same_number lanes from steps old new LanesAgain f = f.number
 
-pub same_long : (lanes steps : ℕ) (old new : WorkerRecord) (found : Found)
-    → Finds lanes steps old found new
+pub same_long : (lanes from steps : ℕ) (old new : WorkerRecord) (found : Found)
+    → Finds lanes from steps old found new
     → length new.lanes ≡ length old.lanes
-same_long lanes steps old new (Job lane job left) f = f.long
-same_long lanes steps old new LanesEnded f = f.0.long
-same_long lanes steps old new LanesPark f = f.long
-same_long lanes steps old new LanesAgain f = f.long
+same_long lanes from steps old new (Job lane job left) f = f.long
+same_long lanes from steps old new LanesEnded f = f.0.long
+same_long lanes from steps old new LanesPark f = f.long
+same_long lanes from steps old new LanesAgain f = f.long
 
-pub within : (lanes steps : ℕ) (old new : WorkerRecord) (found : Found)
-    → Finds lanes steps old found new
+pub within : (lanes from steps : ℕ) (old new : WorkerRecord) (found : Found)
+    → Finds lanes from steps old found new
     → IfSome (found_job found) (λ job. job.0 < lanes)
-within lanes steps old new (Job lane job left) f = f.low
-within lanes steps old new LanesEnded f = tt
-within lanes steps old new LanesPark f = tt
-within lanes steps old new LanesAgain f = tt
+within lanes from steps old new (Job lane job left) f = f.low
+within lanes from steps old new LanesEnded f = tt
+within lanes from steps old new LanesPark f = tt
+within lanes from steps old new LanesAgain f = tt
 
 pub stays_free : (found : Found) (at : At)
     → StopsAt found at
@@ -85,13 +85,13 @@ stays_free LanesEnded at stops = tt
 stays_free LanesPark at stops = tt
 stays_free LanesAgain at stops = tt
 
-pub sees_ends : (lanes steps : ℕ) (old new : WorkerRecord) (found : Found)
-    → Finds lanes steps old found new
+pub sees_ends : (lanes from steps : ℕ) (old new : WorkerRecord) (found : Found)
+    → Finds lanes from steps old found new
     → SeesEnds lanes found new
-sees_ends lanes steps old new (Job lane job left) f = tt
-sees_ends lanes steps old new LanesEnded f = f.1
-sees_ends lanes steps old new LanesPark f = tt
-sees_ends lanes steps old new LanesAgain f = tt
+sees_ends lanes from steps old new (Job lane job left) f = tt
+sees_ends lanes from steps old new LanesEnded f = f.1
+sees_ends lanes from steps old new LanesPark f = tt
+sees_ends lanes from steps old new LanesAgain f = tt
 
 pub free_awake : (at : At) → IsFree at → IsAwake at
 free_awake AtIdle free = tt

@@ -1,5 +1,5 @@
 //! A worker's next job together with its block.
-ghost use Rattle.std.specs.Prelude.{◌≡◌, ◌≢◌, ◌<◌, Some, None, ◌∷◌, []};
+ghost use Rattle.std.specs.Prelude.{◌≡◌, ◌≢◌, ◌<◌, Some, None, true, false, ◌∷◌, []};
 ghost use Rattle.bitmap_tree.specs.Handles.{IsPermitOf};
 ghost use Rattle.region_shop.specs.declared.next.Reason.TheVariants.{NoneFree, Contended};
 ghost use Rattle.region_shop.specs.declared.ageing.TheConstants.{TICKETS};
@@ -54,15 +54,15 @@ pub(crate) fn idle(hand: Hand, permit: Permit) -> ShopWorker
     }
 }
 
-// Why the allocator refused, by the number of words that it gave up.
-pub(crate) fn reason_of(contended: u32) -> Reason
-    ensures none_free { contended ≡ 0 → result ≡ Reason.NoneFree }
-    ensures contended { contended ≢ 0 → result ≡ Reason.Contended }
+// Why the allocator refused, by whether it gave up a word.
+pub(crate) fn reason_of(disturbed: bool) -> Reason
+    ensures none_free { disturbed ≡ false → result ≡ Reason.NoneFree }
+    ensures contended { disturbed ≡ true → result ≡ Reason.Contended }
 {
-    if contended == 0 {
-        Reason::NoneFree
-    } else {
+    if disturbed {
         Reason::Contended
+    } else {
+        Reason::NoneFree
     }
 }
 
@@ -98,7 +98,7 @@ impl RegionShop {
                 self.ageing.count_take(seen, ticket);
                 Next::Run(RunningJob { hand, block, job })
             }
-            Err((permit, contended)) => {
+            Err((permit, disturbed)) => {
                 let kept = Some(job);
                 let worker = ShopWorker {
                     hand,
@@ -106,7 +106,7 @@ impl RegionShop {
                     kept,
                     ticket: self.ageing.keep(ticket),
                 };
-                Next::NoRegion(worker, reason_of(contended))
+                Next::NoRegion(worker, reason_of(disturbed))
             }
         }
     }

@@ -90,13 +90,13 @@ impl CrowdLane {
         }
         let k = self.dimension();
         match tree.take_quick(k, self.below(4096)) {
-            Some(held) => {
+            Ok(held) => {
                 let faults = owners.enter(held.region());
                 self.faults = self.faults.wrapping_add(faults);
                 self.given = self.given.wrapping_add(1);
                 kept.push_reserved(held);
             }
-            None => {
+            Err(_) => {
                 if kept.is_empty() {
                     yield_now();
                 } else {

@@ -39,11 +39,11 @@ fn takes_all(tree: &BitmapTree) -> bool
     requires dim { dim_of tree.now ≡ 12 }
 {
     match tree.take_quick(12, 0) {
-        Some(held) => {
+        Ok(held) => {
             tree.release(held);
             true
         }
-        None => false,
+        Err(_) => false,
     }
 }
 
@@ -83,6 +83,6 @@ pub fn run_trial<R: Threads + Sync>(
     let tree = BitmapTree::open(alloc, CROWD_DIM)?;
     run_lanes(rt, alloc, &tree, &owners, lanes.as_mut_slice());
     let is_whole = takes_all(&tree);
-    let words = tree.close();
+    let words = tree.close(Vec::new(alloc));
     Ok(sums_of(&lanes, is_whole && is_fresh(&words)))
 }

@@ -3,6 +3,7 @@ ghost use Rattle.std.specs.Prelude.{◌≡◌, Ok};
 mod calls;
 mod crowd;
 mod finding;
+mod naming;
 mod script;
 mod sharing;
 mod sleepers;

@@ -30,25 +30,6 @@ impl Tree {
         Ok((Tree { table, size, room }, seat))
     }
 
-    /// Returns a word as it is at some moment of the call. Word `0` is the roll, and word `v` that
-    /// of node `v`. A proof learns nothing from it.
-    pub fn word(&self, word: u64) -> u64
-        requires { word < 2 ^ (dim_of self.now + 1) }
-    {
-        self.table.shared.peek(word as usize)
-    }
-
-    /// Frees the words, whatever they are.
-    pub fn abandon(self) {
-        let Tree {
-            table,
-            size: _,
-            room,
-        } = self;
-        drop(table);
-        drop(room);
-    }
-
     /// Returns the dimension of the machine and the number of its stations.
     pub fn size(&self) -> Size
         ensures { result ≡ size_of self.now }

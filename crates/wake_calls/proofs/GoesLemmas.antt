@@ -3,13 +3,14 @@ use Rattle.std.proofs.Common.{◌≡◌, ℕ, List, sym, ◌∙◌, ap, subst}
 use Rattle.std.specs.Prelude.{map}
 use Rattle.atomic_table.specs.Table.{State, Me}
 use Rattle.wake_pool.specs.declared.phase.WakePhase.{WakePhase as Phase}
+use Rattle.wake_calls.specs.declared.deed.WakeDeed.{WakeDeed}
 use Rattle.wake_calls.specs.declared.rule.ThreadRecord.{ThreadRecord}
 use Rattle.wake_calls.specs.Pool.{in_phase, PoolLaw}
-use Rattle.wake_calls.specs.Thread.{moved, thread, number_of, IsIn}
+use Rattle.wake_calls.specs.Thread.{moved, noting, thread, number_of, IsIn}
 
 module _ {V K : Type 0} (threads : V → List ThreadRecord) (goes : Phase → V → V)
-    (holds : K → State (Unit {0}) V → Type 0) (workers lanes : K → ℕ)
-    (law : PoolLaw threads goes holds workers lanes) where
+    (noted : WakeDeed → V → V) (holds : K → State (Unit {0}) V → Type 0) (workers lanes : K → ℕ)
+    (law : PoolLaw threads goes noted holds workers lanes) where
   -- the later phase is that of the seat
   pub goes_again : (m : Me (Unit {0}) V) (p q : Phase) → moved goes q (moved goes p m) ≡ moved goes q m
   goes_again m p q = ap (λ (v : V). (v, m.1)) (law.again p q m.0)
@@ -50,3 +51,12 @@ module _ {V K : Type 0} (threads : V → List ThreadRecord) (goes : Phase → V 
   pub goes_same : (m : Me (Unit {0}) V) (w l : ℕ) (p : Phase) → IsIn (threads m.0) w l p → m ≡ moved goes p m
   goes_same m w l p is =
       sym (ap (λ (v : V). (v, m.1)) (law.same m.0 (record { number = number_of (threads m.0); phase = p; workers = w; lanes = l }) is))
+
+  -- the same, and it leaves a note
+  pub noted_again : (m n o : Me (Unit {0}) V) (p q : Phase) (d : WakeDeed)
+      → n ≡ moved goes p m
+      → o ≡ noting noted d (moved goes q n)
+      → o ≡ noting noted d (moved goes q m)
+  noted_again m n o p q d first second = second
+      ∙ ap (λ (x : Me (Unit {0}) V). noting noted d (moved goes q x)) first
+      ∙ ap (noting noted d) (goes_again m p q)

@@ -25,9 +25,11 @@ use Rattle.wake_pool.proofs.SetLemmas.{set_same}
 use Rattle.wake_pool.proofs.WorldLemmas.{bit_low, same_bit}
 use Rattle.wake_pool.proofs.BitLemmas.{Turns, woken_turns}
 use Rattle.wake_pool.proofs.WordLemmas as words
+use Rattle.wake_calls.specs.declared.deed.WakeDeed.{WakeDeed}
+use Rattle.wake_calls.specs.declared.deed.WakeDeed.TheVariants.{Gave, RoseForCall, TookCall}
 use Rattle.wake_calls.specs.declared.rule.ThreadRecord.{ThreadRecord}
 use Rattle.wake_calls.specs.Pool.{IsPool, PoolLaw}
-use Rattle.wake_calls.specs.Thread.{thread, number_of, moved}
+use Rattle.wake_calls.specs.Thread.{thread, number_of, moved, noting}
 use Rattle.wake_calls.specs.Inner.Steps.{first_in, goes_by, workers_of, to_of, claims_at, rests_at, leaves_at, notices_at, wakes_at, gives_at, stays_at, returns_at, reads_at, rises_at, checks_at, waits_at, calls_at, rings_at, takes_call_at, finds_call_at}
 
 -- the thread of a seat
@@ -35,8 +37,8 @@ abbrev record_of : ℕ → ℕ → ℕ → Phase → ThreadRecord
 record_of t w l p = record { number = t; phase = p; workers = w; lanes = l }
 
 module _ {V K : Type 0} (threads : V → List ThreadRecord) (goes : Phase → V → V)
-    (holds : K → State (Unit {0}) V → Type 0) (workers lanes : K → ℕ)
-    (law : PoolLaw threads goes holds workers lanes) (k : K) where
+    (noted : WakeDeed → V → V) (holds : K → State (Unit {0}) V → Type 0) (workers lanes : K → ℕ)
+    (law : PoolLaw threads goes noted holds workers lanes) (k : K) where
   abbrev Sat : Type 0
   Sat = Me (Unit {0}) V
 
@@ -45,7 +47,7 @@ module _ {V K : Type 0} (threads : V → List ThreadRecord) (goes : Phase → V 
 
   -- what a state is to a step that finds the thread t in phase p
   record Local (w l t : ℕ) (p : Phase) (s : St) : Type 0 where
-    pub pool : IsPool threads goes (holds k) w l s
+    pub pool : IsPool threads goes noted (holds k) w l s
     pub phase_is : pool.phases t ≡ p
 
   local : (s : St) → holds k s → (id : ℕ) (m : Sat) (t w l : ℕ) (p : Phase)
@@ -53,7 +55,7 @@ module _ {V K : Type 0} (threads : V → List ThreadRecord) (goes : Phase → V 
       → threads m.0 ≡ thread t w l p
       → Local w l t p s
   local s h id m t w l p me is =
-      let here : IsPool threads goes (holds k) (workers k) (lanes k) s = law.pool k s h in
+      let here : IsPool threads goes noted (holds k) (workers k) (lanes k) s = law.pool k s h in
       let tie = here.tied id m.0 (record_of t w l p) me is in
       subst₂ (λ (a b : ℕ). Local a b t p s) (sym tie.1) (sym tie.2) (record { pool = here; phase_is = tie.0 })
 
@@ -69,12 +71,18 @@ module _ {V K : Type 0} (threads : V → List ThreadRecord) (goes : Phase → V 
       (IsSound (world_of w l (common.set s.words i y) here.pool.jobs here.pool.phases) × then m)
       ⊎ ((q : Phase) × IsSound (world_of w l (common.set s.words i y) here.pool.jobs (machine.set here.pool.phases t q)) × then (moved goes q m))
 
-  step_to : (n id : ℕ) (m : Sat) (t w l : ℕ) (p : Phase) (i : ℕ) (g : ℕ → ℕ) (then : ℕ → Sat → Type 0)
+  -- the same, and the step leaves a note
+  abbrev Noting : (w l t : ℕ) (p : Phase) (s : St) → Local w l t p s → ℕ → ℕ → (Sat → Type 0) → Sat → Type 0
+  Noting w l t p s here i y then m =
+      (q : Phase) × (d : WakeDeed) × IsSound (world_of w l (common.set s.words i y) here.pool.jobs (machine.set here.pool.phases t q)) × then (noting noted d (moved goes q m))
+
+  any_to : (n id : ℕ) (m : Sat) (t w l : ℕ) (p : Phase) (i : ℕ) (g : ℕ → ℕ) (then : ℕ → Sat → Type 0)
       → threads m.0 ≡ thread t w l p
       → i < base w
-      → ((s : St) (here : Local w l t p s) → Outcome w l t p s here i (g (get_or s.words i 0)) (then (get_or s.words i 0)) m)
+      → ((s : St) (here : Local w l t p s)
+      → Outcome w l t p s here i (g (get_or s.words i 0)) (then (get_or s.words i 0)) m ⊎ Noting w l t p s here i (g (get_or s.words i 0)) (then (get_or s.words i 0)) m)
       → Allows (holds k) n id m i g then
-  step_to n id m t w l p i g then is inside decide s h homes me small =
+  any_to n id m t w l p i g then is inside decide s h homes me small =
       let here : Local w l t p s = local s h id m t w l p me is in
       turn here (decide s here)
     where
@@ -84,9 +92,10 @@ module _ {V K : Type 0} (threads : V → List ThreadRecord) (goes : Phase → V 
       one : goes p m.0 ≡ m.0
       one = law.same m.0 r is
 
-      turn : (here : Local w l t p s) → Outcome w l t p s here i (g (get_or s.words i 0)) (then (get_or s.words i 0)) m
+      turn : (here : Local w l t p s)
+          → Outcome w l t p s here i (g (get_or s.words i 0)) (then (get_or s.words i 0)) m ⊎ Noting w l t p s here i (g (get_or s.words i 0)) (then (get_or s.words i 0)) m
           → (v : V) × (a : Act (Unit {0})) × Valid s.homes m.1 a × holds k (stepped s i (g (get_or s.words i 0)) id m.1 v a) × then (get_or s.words i 0) (v, carried_after m.1 a)
-      turn here (inl (sound, told)) = (
+      turn here (inl (inl (sound, told))) = (
         m.0,
         keeps,
         tt,
@@ -96,13 +105,34 @@ module _ {V K : Type 0} (threads : V → List ThreadRecord) (goes : Phase → V 
             (λ j u. sym (set_same here.pool.phases t p here.phase_is u) j) sound)),
         told,
       )
-      turn here (inr (q, sound, told)) = (
+      turn here (inl (inr (q, sound, told))) = (
         goes q m.0,
         keeps,
         tt,
         here.pool.moves id m.0 r q i (g (get_or s.words i 0)) me is inside sound,
         told,
       )
+      turn here (inr (q, d, sound, told)) = (
+        noted d (goes q m.0),
+        keeps,
+        tt,
+        here.pool.notes id m.0 r q d i (g (get_or s.words i 0)) me is inside sound,
+        told,
+      )
+
+  step_to : (n id : ℕ) (m : Sat) (t w l : ℕ) (p : Phase) (i : ℕ) (g : ℕ → ℕ) (then : ℕ → Sat → Type 0)
+      → threads m.0 ≡ thread t w l p
+      → i < base w
+      → ((s : St) (here : Local w l t p s) → Outcome w l t p s here i (g (get_or s.words i 0)) (then (get_or s.words i 0)) m)
+      → Allows (holds k) n id m i g then
+  step_to n id m t w l p i g then is inside decide = any_to n id m t w l p i g then is inside (λ s here. inl (decide s here))
+
+  note_to : (n id : ℕ) (m : Sat) (t w l : ℕ) (p : Phase) (i : ℕ) (g : ℕ → ℕ) (then : ℕ → Sat → Type 0)
+      → threads m.0 ≡ thread t w l p
+      → i < base w
+      → ((s : St) (here : Local w l t p s) → Noting w l t p s here i (g (get_or s.words i 0)) (then (get_or s.words i 0)) m)
+      → Allows (holds k) n id m i g then
+  note_to n id m t w l p i g then is inside decide = any_to n id m t w l p i g then is inside (λ s here. inr (decide s here))
 
   -- the word is only read
   read_to : (n id : ℕ) (m : Sat) (t w l : ℕ) (p : Phase) (i : ℕ) (then : ℕ → Sat → Type 0)
@@ -255,20 +285,21 @@ module _ {V K : Type 0} (threads : V → List ThreadRecord) (goes : Phase → V 
         (λ s other. (λ same. absurd (other same), λ _. refl)))
 
     rise_step_here : i ≡ word_of t → threads m.0 ≡ thread t w l Called → t < w
-        → Allows (holds k) n id m i (risen (bit_of t)) (rises_at threads goes (step n i (bit_not w64 (one_bit (bit_of t))) 0 none) m)
-    rise_step_here at is there = by_name (rises_at threads goes) (risen (bit_of t)) (bit_not w64 (one_bit (bit_of t))) 0 n id m i (word_of t) at
-        (step_to n id m t w l Called (word_of t) (risen (bit_of t)) (rises_at threads goes (step n (word_of t) (bit_not w64 (one_bit (bit_of t))) 0 none) m) is (omega (arith, there))
+        → Allows (holds k) n id m i (risen (bit_of t)) (rises_at threads goes noted (step n i (bit_not w64 (one_bit (bit_of t))) 0 none) m)
+    rise_step_here at is there = by_name (rises_at threads goes noted) (risen (bit_of t)) (bit_not w64 (one_bit (bit_of t))) 0 n id m i (word_of t) at
+        (any_to n id m t w l Called (word_of t) (risen (bit_of t)) (rises_at threads goes noted (step n (word_of t) (bit_not w64 (one_bit (bit_of t))) 0 none) m) is (omega (arith, there))
         (λ s here. dite (ℕ_discrete (bit_at (get_or s.words (word_of t) 0) (bit_of t)) 1)
         (λ set. inr (
           Idle,
+          RoseForCall,
           words.rises w l s.words here.pool.jobs here.pool.phases here.pool.sound here.pool.long t there here.phase_is set,
           (λ _. refl, λ clear. absurd (clear (own (get_or s.words (word_of t) 0) Called is set))),
         ))
-        (λ clear. inr (
+        (λ clear. inl (inr (
           Found,
           words.rises_found w l s.words here.pool.jobs here.pool.phases here.pool.sound here.pool.long t there here.phase_is clear,
           (λ set. absurd (clear (owned (get_or s.words (word_of t) 0) Called is set)), λ _. refl),
-        ))))
+        )))))
 
     pub check_step : i ≡ word_of t → threads m.0 ≡ thread t w l Checking → t < w
         → Allows (holds k) n id m i (λ x. x) (checks_at threads goes (step n i 0 0 none) m)
@@ -315,10 +346,18 @@ module _ {V K : Type 0} (threads : V → List ThreadRecord) (goes : Phase → V 
     -- ---- tokens and mailboxes
 
     pub give_step : (x : ℕ) → i ≡ token_at w x → threads m.0 ≡ thread t w l (Giving x) → x < w
-        → Allows (holds k) n id m i (λ _. 1) (λ _. gives_at threads goes (step n i 1 0 none) m 1)
-    give_step x at is there = store_by_name (gives_at threads goes) 1 n id m i (token_at w x) at
-        (step_to n id m t w l (Giving x) (token_at w x) (λ _. 1) (λ _. gives_at threads goes (step n (token_at w x) 1 0 none) m 1) is (omega (arith, there))
-        (λ s here. inr (Idle, words.gives w l s.words here.pool.jobs here.pool.phases here.pool.sound here.pool.long t x there here.phase_is, refl)))
+        → Allows (holds k) n id m i (λ _. 1) (λ _. gives_at threads goes noted (step n i 1 0 none) m 1)
+    give_step x at is there = store_by_name (gives_at threads goes noted) 1 n id m i (token_at w x) at
+        (note_to n id m t w l (Giving x) (token_at w x) (λ _. 1) (λ _. gives_at threads goes noted (step n (token_at w x) 1 0 none) m 1) is (omega (arith, there))
+        (λ s here. (
+          Idle,
+          Gave x,
+          words.gives w l s.words here.pool.jobs here.pool.phases here.pool.sound here.pool.long t x there here.phase_is,
+          λ y same. ap (λ (z : ℕ). noting noted (Gave z) (moved goes Idle m)) (only y same),
+        )))
+      where
+        only : (y : ℕ) → token_at (workers_of (threads m.0)) y ≡ token_at w x → x ≡ y
+        only y same = omega (arith, same, ap workers_of is)
 
     pub wait_step : i ≡ token_at w t → threads m.0 ≡ thread t w l Parked → t < w
         → Allows (holds k) n id m i (λ x. either (eqb x 1) 0 x) (waits_at threads goes (step n i 1 0 none) m)
@@ -361,20 +400,21 @@ module _ {V K : Type 0} (threads : V → List ThreadRecord) (goes : Phase → V 
         to = ap to_of is
 
     pub take_call_step : i ≡ mail_at w t → threads m.0 ≡ thread t w l Idle → t < w
-        → Allows (holds k) n id m i (λ _. 0) (λ _. takes_call_at threads goes (step n i 0 0 none) m 0)
-    take_call_step at is there = store_by_name (takes_call_at threads goes) 0 n id m i (mail_at w t) at
-        (step_to n id m t w l Idle (mail_at w t) (λ _. 0) (λ _. takes_call_at threads goes (step n (mail_at w t) 0 0 none) m 0) is (omega (arith, there))
-        (λ s here. inl (
-          subst (λ (P : ℕ → Phase). IsSound (world_of w l (common.set s.words (mail_at w t) 0) here.pool.jobs P)) (λ j u. set_same here.pool.phases t Idle here.phase_is u j)
-              (words.answers w l s.words here.pool.jobs here.pool.phases here.pool.sound here.pool.long t there here.phase_is),
-          refl,
+        → Allows (holds k) n id m i (λ _. 0) (λ _. takes_call_at threads goes noted (step n i 0 0 none) m 0)
+    take_call_step at is there = store_by_name (takes_call_at threads goes noted) 0 n id m i (mail_at w t) at
+        (note_to n id m t w l Idle (mail_at w t) (λ _. 0) (λ _. takes_call_at threads goes noted (step n (mail_at w t) 0 0 none) m 0) is (omega (arith, there))
+        (λ s here. (
+          Idle,
+          TookCall,
+          words.answers w l s.words here.pool.jobs here.pool.phases here.pool.sound here.pool.long t there here.phase_is,
+          ap (λ (v : V). (noted TookCall v, m.1)) (law.same m.0 (record_of t w l Idle) is),
         )))
 
     pub find_call_step : i ≡ mail_at w t → threads m.0 ≡ thread t w l Searching → t < w
-        → Allows (holds k) n id m i (λ _. 0) (λ _. finds_call_at threads goes (step n i 0 0 none) m 0)
-    find_call_step at is there = store_by_name (finds_call_at threads goes) 0 n id m i (mail_at w t) at
-        (step_to n id m t w l Searching (mail_at w t) (λ _. 0) (λ _. finds_call_at threads goes (step n (mail_at w t) 0 0 none) m 0) is (omega (arith, there))
-        (λ s here. inr (Found, words.answers_found w l s.words here.pool.jobs here.pool.phases here.pool.sound here.pool.long t there here.phase_is, refl)))
+        → Allows (holds k) n id m i (λ _. 0) (λ _. finds_call_at threads goes noted (step n i 0 0 none) m 0)
+    find_call_step at is there = store_by_name (finds_call_at threads goes noted) 0 n id m i (mail_at w t) at
+        (note_to n id m t w l Searching (mail_at w t) (λ _. 0) (λ _. finds_call_at threads goes noted (step n (mail_at w t) 0 0 none) m 0) is (omega (arith, there))
+        (λ s here. (Found, TookCall, words.answers_found w l s.words here.pool.jobs here.pool.phases here.pool.sound here.pool.long t there here.phase_is, refl)))
 
     pub read_step : i ≡ mail_at w t → threads m.0 ≡ thread t w l Reading → t < w
         → Allows (holds k) n id m i (λ x. x) (reads_at threads goes (step n i 0 0 none) m)
@@ -395,8 +435,8 @@ module _ {V K : Type 0} (threads : V → List ThreadRecord) (goes : Phase → V 
     lie_down_step bit same at is there = subst (λ (b : ℕ). Allows (holds k) n id m i (turned b) (rests_at threads goes (step n i (bit_or SEARCH (one_bit b)) 0 none) m)) (sym same) (lie_down_step_here at is there)
 
     pub rise_step : (bit : ℕ) → bit ≡ bit_of t → i ≡ word_of t → threads m.0 ≡ thread t w l Called → t < w
-        → Allows (holds k) n id m i (risen bit) (rises_at threads goes (step n i (bit_not w64 (one_bit bit)) 0 none) m)
-    rise_step bit same at is there = subst (λ (b : ℕ). Allows (holds k) n id m i (risen b) (rises_at threads goes (step n i (bit_not w64 (one_bit b)) 0 none) m)) (sym same) (rise_step_here at is there)
+        → Allows (holds k) n id m i (risen bit) (rises_at threads goes noted (step n i (bit_not w64 (one_bit bit)) 0 none) m)
+    rise_step bit same at is there = subst (λ (b : ℕ). Allows (holds k) n id m i (risen b) (rises_at threads goes noted (step n i (bit_not w64 (one_bit b)) 0 none) m)) (sym same) (rise_step_here at is there)
 
     pub come_back_step : (bit seen : ℕ) → bit ≡ bit_of t → i ≡ word_of t → threads m.0 ≡ thread t w l Returning → t < w
         → bit_at seen WORD_WORKERS ≢ 1

@@ -2,6 +2,7 @@
 use Rattle.std.specs.Prelude.{◌≡◌, ℕ, List, [], ◌∷◌}
 use Rattle.atomic_table.specs.Table.{Me}
 use Rattle.wake_pool.specs.declared.phase.WakePhase.{WakePhase as Phase}
+use Rattle.wake_calls.specs.declared.deed.WakeDeed.{WakeDeed}
 use Rattle.wake_calls.specs.declared.rule.ThreadRecord.{ThreadRecord}
 
 -- The threads of a seat that has this one alone.
@@ -12,6 +13,11 @@ thread number workers lanes phase =
 -- The seat once its thread has gone on to this phase. All else that the seat knows is as before.
 abbrev pub moved : {V : Type 0} → (Phase → V → V) → Phase → Me (Unit {0}) V → Me (Unit {0}) V
 moved goes q m = (goes q m.0, m.1)
+
+-- The seat with one deed more. All else that it knows is as before.
+abbrev pub noting : {V : Type 0} → (WakeDeed → V → V) → WakeDeed → Me (Unit {0}) V
+    → Me (Unit {0}) V
+noting noted d m = (noted d m.0, m.1)
 
 -- The number of a seat's thread.
 abbrev pub number_of : List ThreadRecord → ℕ

@@ -5,12 +5,14 @@
 //! `WakeRule` has a world of `wake_pool`, so its law holds between any two steps.
 #![tactic(auto)]
 
+mod deed;
 mod plays;
 mod rule;
 mod sleeping;
 mod steps;
 mod waking;
 
+pub use deed::WakeDeed;
 pub use rule::{ThreadRecord, WakeRule};
 pub use sleeping::{Asleep, Back, before_park, try_back};
 pub use steps::{

@@ -56,7 +56,7 @@ pub(crate) struct Gives<K, R> {
 }
 
 impl<V, K, R: WakeRule<V, K>> Play<(), V> for Gives<K, R> {
-    ghost then = { gives_at R.threads R.goes };
+    ghost then = { gives_at R.threads R.goes R.noted };
 }
 
 // A worker that has seen a job looks at its word.
@@ -92,7 +92,7 @@ pub(crate) struct Rises<K, R> {
 }
 
 impl<V, K, R: WakeRule<V, K>> Play<(), V> for Rises<K, R> {
-    ghost then = { rises_at R.threads R.goes };
+    ghost then = { rises_at R.threads R.goes R.noted };
 }
 
 // A worker looks at its bit.
@@ -137,7 +137,7 @@ pub(crate) struct TakesCall<K, R> {
 }
 
 impl<V, K, R: WakeRule<V, K>> Play<(), V> for TakesCall<K, R> {
-    ghost then = { takes_call_at R.threads R.goes };
+    ghost then = { takes_call_at R.threads R.goes R.noted };
 }
 
 // The searcher takes its call.
@@ -146,5 +146,5 @@ pub(crate) struct FindsCall<K, R> {
 }
 
 impl<V, K, R: WakeRule<V, K>> Play<(), V> for FindsCall<K, R> {
-    ghost then = { finds_call_at R.threads R.goes };
+    ghost then = { finds_call_at R.threads R.goes R.noted };
 }

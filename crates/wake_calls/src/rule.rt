@@ -1,9 +1,11 @@
 // The rule of a table that has words of sleepers.
 ghost use Rattle.std.specs.Prelude.{ℕ, List};
 ghost use Rattle.wake_calls.specs.Pool.{PoolLaw};
+ghost use Rattle.wake_calls.specs.declared.deed.WakeDeed.{WakeDeed as TheDeed};
 ghost use Rattle.wake_calls.specs.declared.rule.ThreadRecord.{ThreadRecord as Thread};
 ghost use Rattle.wake_pool.specs.declared.phase.WakePhase.{WakePhase as ThePhase};
 
+use crate::deed::WakeDeed;
 use atomic_table::TableRule;
 use wake_pool::WakePhase;
 
@@ -32,6 +34,9 @@ pub trait WakeRule<V, K>: TableRule<(), V, K> {
 
     ghost goes: { ThePhase → V → V };
 
+    // The view with one deed more.
+    ghost noted: { TheDeed → V → V };
+
     // The words and the views are a world of threads, and a step on its words needs only keep that.
-    ghost pool_law: { PoolLaw threads goes Self.holds workers lanes };
+    ghost pool_law: { PoolLaw threads goes noted Self.holds workers lanes };
 }

@@ -2,7 +2,8 @@
 ghost use Rattle.std.specs.Prelude.{◌≡◌, ◌<◌, ◌≤◌};
 ghost use Rattle.wake_pool.specs.declared.phase.WakePhase.TheVariants.{Idle, Searching, Found, Returning, Reading, Parked};
 ghost use Rattle.wake_pool.specs.Words.{base};
-ghost use Rattle.wake_calls.specs.Thread.{moved, thread};
+ghost use Rattle.wake_calls.specs.Thread.{moved, noting, thread};
+ghost use Rattle.wake_calls.specs.declared.deed.WakeDeed.TheVariants.{RoseForCall};
 ghost use Rattle.wake_calls.specs.declared.sleeping.Back.TheVariants.{Searches, Stays, Again};
 ghost use Rattle.wake_calls.specs.declared.sleeping.Asleep.TheVariants.{Call, CallOfSearcher, Woken, Park};
 
@@ -24,7 +25,7 @@ pub enum Back {
 /// What a worker does that has set its bit and has no job.
 #[derive(Clone, Copy, Debug, PartialEq, Eq)]
 pub enum Asleep {
-    /// It has a call, and is idle.
+    /// It has a call, and is idle. It takes its call next.
     Call,
     /// It has a call, and was woken: it is the searcher of its word and has work.
     CallOfSearcher,
@@ -80,7 +81,7 @@ pub fn before_park<V, K, R: WakeRule<V, K>>(
     requires worker { worker < workers }
     ensures table { seat.new.table_id ≡ seat.old.table_id }
     ensures call { result ≡ Call
-        → seat.new.me ≡ moved R.goes Idle seat.old.me }
+        → seat.new.me ≡ noting R.noted RoseForCall (moved R.goes Idle seat.old.me) }
     ensures call_of_searcher { result ≡ CallOfSearcher
         → seat.new.me ≡ moved R.goes Found seat.old.me }
     ensures woken { result ≡ Woken

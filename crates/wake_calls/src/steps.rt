@@ -5,7 +5,8 @@ ghost use Rattle.wake_pool.specs.declared.layout.TheConstants.{SEARCH};
 ghost use Rattle.wake_pool.specs.declared.phase.WakePhase.TheVariants.{Idle, Waking, Giving, Calling, Searching, Found, Returning, Reading, Called, Checking, Parked};
 ghost use Rattle.wake_pool.specs.Schedule.{waking, looking, resting};
 ghost use Rattle.wake_pool.specs.Words.{base, bit_of, word_count, word_of};
-ghost use Rattle.wake_calls.specs.Thread.{moved, thread, IsIn, number_of};
+ghost use Rattle.wake_calls.specs.Thread.{moved, noting, thread, IsIn, number_of};
+ghost use Rattle.wake_calls.specs.declared.deed.WakeDeed.TheVariants.{Gave, RoseForCall, TookCall};
 ghost use Rattle.wake_calls.specs.declared.steps.Noticed.TheVariants.{Searched, NobodySleeps, Sleeping};
 
 use crate::plays::{
@@ -184,7 +185,8 @@ pub fn give<V, K, R: WakeRule<V, K>>(
         (Giving to) }
     requires to { to < workers }
     ensures table { seat.new.table_id ≡ seat.old.table_id }
-    ensures idle { seat.new.me ≡ moved R.goes Idle seat.old.me }
+    ensures idle { seat.new.me
+        ≡ noting R.noted (Gave to) (moved R.goes Idle seat.old.me) }
 {
     shared.store::<Gives<K, R>>(seat, token_at(workers, to) as usize, 1);
 }
@@ -267,8 +269,8 @@ pub fn read_mail<V, K, R: WakeRule<V, K>>(
     shared.load::<Reads<K, R>>(seat, mail_at(workers, worker) as usize) == 1
 }
 
-/// Takes back the bit of a worker that has a call. Returns whether it was set. If not, the worker
-/// is the searcher of its word.
+/// Takes back the bit of a worker that has a call. Returns whether it was set. The worker takes its
+/// call next then (`take_call`). If not, it is the searcher of its word.
 pub fn rise<V, K, R: WakeRule<V, K>>(
     shared: &Shared<(), V, K, R>,
     workers: u32,
@@ -282,7 +284,7 @@ pub fn rise<V, K, R: WakeRule<V, K>>(
     requires worker { worker < workers }
     ensures table { seat.new.table_id ≡ seat.old.table_id }
     ensures idle { result ≡ true
-        → seat.new.me ≡ moved R.goes Idle seat.old.me }
+        → seat.new.me ≡ noting R.noted RoseForCall (moved R.goes Idle seat.old.me) }
     ensures found { result ≡ false
         → seat.new.me ≡ moved R.goes Found seat.old.me }
 {
@@ -390,7 +392,7 @@ pub fn take_call<V, K, R: WakeRule<V, K>>(
         ≡ thread worker workers (R.lanes shared.now.key) Idle }
     requires worker { worker < workers }
     ensures table { seat.new.table_id ≡ seat.old.table_id }
-    ensures same { seat.new.me ≡ seat.old.me }
+    ensures took { seat.new.me ≡ noting R.noted TookCall seat.old.me }
 {
     shared.store::<TakesCall<K, R>>(seat, mail_at(workers, worker) as usize, 0);
 }
@@ -408,7 +410,8 @@ pub fn find_call<V, K, R: WakeRule<V, K>>(
         ≡ thread worker workers (R.lanes shared.now.key) Searching }
     requires worker { worker < workers }
     ensures table { seat.new.table_id ≡ seat.old.table_id }
-    ensures found { seat.new.me ≡ moved R.goes Found seat.old.me }
+    ensures found { seat.new.me
+        ≡ noting R.noted TookCall (moved R.goes Found seat.old.me) }
 {
     shared.store::<FindsCall<K, R>>(seat, mail_at(workers, worker) as usize, 0);
 }

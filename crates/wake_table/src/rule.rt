@@ -1,7 +1,7 @@
 // The rule of a board's table, and the names of its steps.
 ghost use Rattle.wake_table.specs.Inner.Rule.{Keeps, first_view, without_thread, thread_alone};
 ghost use Rattle.wake_table.specs.Inner.Law.{board_law};
-ghost use Rattle.wake_table.specs.Inner.Steps.{goes, puts_at, takes_at, finds_at, looks_at, looks_again_at};
+ghost use Rattle.wake_table.specs.Inner.Steps.{goes, noted, puts_at, takes_at, finds_at, looks_at, looks_again_at};
 
 use crate::board::BoardSizes;
 use atomic_table::{Play, Split, TableRule};
@@ -30,6 +30,8 @@ impl WakeRule<BoardView, BoardSizes> for BoardRule {
     ghost threads = { λ v. v.threads };
 
     ghost goes = { goes };
+
+    ghost noted = { noted };
 
     ghost pool_law = { board_law };
 }

@@ -3,6 +3,7 @@
 //! A handle says whether it is open, and a block's handle of which machine it is. The clauses ask
 //! only that machines have different numbers, which [`open`] gives them.
 
+use crate::source::bitmap_tree::HiddenSeat;
 use crate::source::cubejobs_regions as source;
 use crate::source::cubejobs_regions::tag::tag_of;
 use crate::source::kit::alloc::Global;
@@ -22,8 +23,7 @@ pub const MAX_DIM: u32 = crate::source::cube_shape::MAX_BITMAP_DIM;
 static NEXT: AtomicU64 = AtomicU64::new(1);
 
 impl Handle {
-    pub const SHUT: Handle =
-        Handle { tag: 0, ptr: Opaque::nothing(Global), seat: source::hidden_seat::HiddenSeat {} };
+    pub const SHUT: Handle = Handle { tag: 0, ptr: Opaque::nothing(Global), seat: HiddenSeat::blank() };
 
     /// Returns whether this handle was not opened.
     pub fn is_shut(&self) -> bool {
@@ -32,8 +32,7 @@ impl Handle {
 }
 
 impl BlockHandle {
-    pub const EMPTY: BlockHandle =
-        BlockHandle { tag: 0, machine: 0, seat: source::hidden_seat::HiddenSeat {} };
+    pub const EMPTY: BlockHandle = BlockHandle { tag: 0, machine: 0, seat: HiddenSeat::blank() };
 
     /// Makes the handle of a block that is held, and that no other handle holds. The machine is of
     /// this dimension and number.

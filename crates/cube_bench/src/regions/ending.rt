@@ -78,10 +78,10 @@ pub(crate) fn is_whole(tree: &BitmapTree) -> bool
     requires { permits_of tree.now ≡ 0 }
 {
     match tree.take_quick(tree.dim(), 0) {
-        Some(whole) => {
+        Ok(whole) => {
             tree.release(whole);
             true
         }
-        None => false,
+        Err(_) => false,
     }
 }

@@ -25,11 +25,11 @@ fn take_and_keep(tree: &BitmapTree, held: &mut Vec<HeldBlock>, k: u32, start: u6
         return false;
     }
     match tree.take_quick(k, start) {
-        Some(block) => {
+        Ok(block) => {
             held.push_reserved(block);
             true
         }
-        None => false,
+        Err(_) => false,
     }
 }
 

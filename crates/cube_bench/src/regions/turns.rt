@@ -20,10 +20,10 @@ fn take_and_release(tree: &BitmapTree, lane: &mut Lane)
         ..
     } = lane.plan;
     match tree.take_quick(lane.random.dim(low, high), start) {
-        Some(held) => {
+        Ok(held) => {
             tree.release(held);
         }
-        None => lane.refused = lane.refused.wrapping_add(1),
+        Err(_) => lane.refused = lane.refused.wrapping_add(1),
     }
 }
 
@@ -88,11 +88,11 @@ fn take_and_keep(tree: &BitmapTree, lane: &mut Lane, budget: u64)
         return;
     }
     match tree.take_quick(k, plan.start) {
-        Some(held) => {
+        Ok(held) => {
             lane.in_use = lane.in_use.wrapping_add(1 << k);
             lane.held.push_reserved(held);
         }
-        None => {
+        Err(_) => {
             lane.refused = lane.refused.wrapping_add(1);
             release_random(tree, lane);
         }

@@ -9,6 +9,7 @@ use Rattle.wake_pool.specs.declared.phase.WakePhase.TheVariants.{Idle, Waking, F
 use Rattle.wake_pool.specs.Schedule.{waking, looking, resting}
 use Rattle.wake_pool.specs.Inner.Invariant.{IsSound}
 use Rattle.wake_pool.specs.Words as pool
+use Rattle.wake_calls.specs.declared.deed.WakeDeed.{WakeDeed}
 use Rattle.wake_calls.specs.declared.rule.ThreadRecord.{ThreadRecord}
 use Rattle.wake_calls.specs.Pool.{in_phase}
 use Rattle.job_lanes.specs.declared.sizes.TheConstants.{CLOSED, TAIL, HEAD}
@@ -47,12 +48,17 @@ threads_in v = v.sleepers ++ v.others
 abbrev pub thread_number : ThreadRecord → ℕ
 thread_number r = r.number
 
-abbrev pub both : View → List ThreadRecord → List ThreadRecord → Both
-both known sleepers others = record { known = known; sleepers = sleepers; others = others }
+abbrev pub both : View → List ThreadRecord → List ThreadRecord → List WakeDeed → Both
+both known sleepers others deeds =
+    record { known = known; sleepers = sleepers; others = others; deeds = deeds }
 
 -- the threads have gone on to this phase
 abbrev pub goes : Phase → Both → Both
-goes q v = both v.known (map (in_phase q) v.sleepers) (map (in_phase q) v.others)
+goes q v = both v.known (map (in_phase q) v.sleepers) (map (in_phase q) v.others) v.deeds
+
+-- one deed more
+abbrev pub noted : WakeDeed → Both → Both
+noted d v = both v.known v.sleepers v.others (d ∷ v.deeds)
 
 -- Workers come first, with their own numbers, then producers with those of their lanes, and the
 -- closer.
@@ -83,31 +89,31 @@ pub record KeepsBoth (plan : Plan) (s : State (Unit {0}) Both) : Type 0 where
 
 abbrev pub first_both : Plan → Both
 first_both plan = both (first_view plan) (numbered_from (thread_at plan Idle) 0 plan.sizes.workers)
-    (numbered_from (thread_at plan Idle) plan.sizes.workers (plan.sizes.lanes + 1))
+    (numbered_from (thread_at plan Idle) plan.sizes.workers (plan.sizes.lanes + 1)) []
 
 abbrev pub without_lane_both : Both → Both
-without_lane_both v = both (without_lane v.known) v.sleepers (rest_of v.others)
+without_lane_both v = both (without_lane v.known) v.sleepers (rest_of v.others) v.deeds
 
 abbrev pub lane_alone_both : Both → Both
-lane_alone_both v = both (lane_alone v.known) [] (first_of v.others)
+lane_alone_both v = both (lane_alone v.known) [] (first_of v.others) []
 
 abbrev pub without_worker_both : Both → Both
-without_worker_both v = both (without_worker v.known) (rest_of v.sleepers) v.others
+without_worker_both v = both (without_worker v.known) (rest_of v.sleepers) v.others v.deeds
 
 abbrev pub worker_alone_both : Both → Both
-worker_alone_both v = both (worker_alone v.known) (first_of v.sleepers) []
+worker_alone_both v = both (worker_alone v.known) (first_of v.sleepers) [] []
 
 abbrev pub as_it_is_both : Both → Both
 as_it_is_both v = v
 
 abbrev pub nothing_of_both : Both → Both
-nothing_of_both v = both (nothing_of v.known) [] []
+nothing_of_both v = both (nothing_of v.known) [] [] []
 
 abbrev pub joined_both : Both → Both → Both
-joined_both v w = both (joined v.known w.known) (threads_in v ++ threads_in w) []
+joined_both v w = both (joined v.known w.known) (threads_in v ++ threads_in w) [] (v.deeds ++ w.deeds)
 
 abbrev pub spent_both : Both
-spent_both = both spent_view [] []
+spent_both = both spent_view [] [] []
 
 -- ---- what steps say
 
@@ -115,7 +121,8 @@ abbrev pub BothPlay : Type 1
 BothPlay = Step (Unit {0}) → BothSat → ℕ → BothSat → Type 0
 
 abbrev pub IsStill : BothSat → BothSat → Type 0
-IsStill m n = (n.0.sleepers ≡ m.0.sleepers) × (n.0.others ≡ m.0.others)
+IsStill m n =
+    (n.0.sleepers ≡ m.0.sleepers) × (n.0.others ≡ m.0.others) × (n.0.deeds ≡ m.0.deeds)
 
 -- a step on a lane that leaves the thread in its phase
 abbrev pub stills : Play → BothPlay
@@ -132,8 +139,8 @@ put_phase m = waking (pool.word_count (workers_of (threads_in m.0))) 0
 -- If a producer has put a job, it has to look whether a worker sleeps.
 abbrev pub Puts : BothSat → ℕ → ℕ → Both → Type 0
 Puts m c found v =
-    (found ≡ c → v ≡ goes (put_phase m) (both v.known m.0.sleepers m.0.others))
-    × (found ≢ c → (v.sleepers ≡ m.0.sleepers) × (v.others ≡ m.0.others))
+    (found ≡ c → v ≡ goes (put_phase m) (both v.known m.0.sleepers m.0.others m.0.deeds))
+    × (found ≢ c → (v.sleepers ≡ m.0.sleepers) × (v.others ≡ m.0.others) × (v.deeds ≡ m.0.deeds))
 
 abbrev pub accepts_both : BothPlay
 accepts_both st m found n = accepts_at st (known_sat m) found (known_sat n) × Puts m st.first found n.0
@@ -177,8 +184,8 @@ abbrev pub GoesOnFrom : BothSat → ℕ → ℕ → Both → Type 0
 GoesOnFrom m head found v =
     let plan = (worker_in m.0.known.workers).plan in
     let p = phase_in m.0.sleepers in
-    (found % CLOSED ≡ head → v ≡ goes (looked plan p true) (both v.known m.0.sleepers m.0.others))
-    × (found % CLOSED ≢ head → v ≡ goes (looked plan p false) (both v.known m.0.sleepers m.0.others))
+    (found % CLOSED ≡ head → v ≡ goes (looked plan p true) (both v.known m.0.sleepers m.0.others m.0.deeds))
+    × (found % CLOSED ≢ head → v ≡ goes (looked plan p false) (both v.known m.0.sleepers m.0.others m.0.deeds))
 
 abbrev pub looks_on_both : BothPlay
 looks_on_both st m found n =
@@ -188,8 +195,8 @@ looks_on_both st m found n =
 -- A searcher has found a job, or another has taken it.
 abbrev pub FindsFrom : BothSat → ℕ → ℕ → Both → Type 0
 FindsFrom m c found v =
-    (found ≡ c → v ≡ goes Found (both v.known m.0.sleepers m.0.others))
-    × (found ≢ c → (v.sleepers ≡ m.0.sleepers) × (v.others ≡ m.0.others))
+    (found ≡ c → v ≡ goes Found (both v.known m.0.sleepers m.0.others m.0.deeds))
+    × (found ≢ c → (v.sleepers ≡ m.0.sleepers) × (v.others ≡ m.0.others) × (v.deeds ≡ m.0.deeds))
 
 abbrev pub finds_both : BothPlay
 finds_both st m found n = takes_at st (known_sat m) found (known_sat n) × FindsFrom m st.first found n.0

@@ -14,6 +14,7 @@ use Rattle.wake_pool.specs.Schedule as machine
 use Rattle.wake_pool.specs.Inner.Invariant.{IsSound}
 use Rattle.wake_pool.specs.Words as pool
 use Rattle.wake_pool.proofs.SetLemmas.{set_here, set_else}
+use Rattle.wake_calls.specs.declared.deed.WakeDeed.{WakeDeed}
 use Rattle.wake_calls.specs.declared.rule.ThreadRecord.{ThreadRecord}
 use Rattle.wake_calls.specs.Pool.{in_phase, IsPool, PoolLaw}
 use Rattle.job_lanes.specs.declared.sizes.TheConstants.{CLOSED, TAIL, HEAD}
@@ -23,7 +24,7 @@ use Rattle.job_lanes.specs.declared.view.Both.{Both}
 use Rattle.job_lanes.specs.Layout.{lane_start, all_words, cell_of}
 use Rattle.job_lanes.specs.History.{Deed}
 use Rattle.job_lanes.specs.Inner.Rule.{lane_at, worker_at, closer_at, LaneWords, reads, Keeps}
-use Rattle.job_lanes.specs.Inner.Pool.{BothSt, known_in, known_state, threads_in, thread_number, both, goes, thread_count, thread_at, jobs_in, KeepsBoth}
+use Rattle.job_lanes.specs.Inner.Pool.{BothSt, known_in, known_state, threads_in, thread_number, both, goes, noted, thread_count, thread_at, jobs_in, KeepsBoth}
 
 -- ---- lists of views
 
@@ -90,7 +91,7 @@ module _ (plan : Plan) where
       same_views : map known_in s.views ≡ map known_in (set s.views id w)
       same_views = sym (map_set known_in s.views id w ∙ ap (set (map known_in s.views) id) same ∙ set_again (map known_in s.views) id v.known (map_get known_in s.views id v me))
 
-  lanes_pool : (s : BothSt) → KeepsBoth plan s → IsPool threads_in goes (KeepsBoth plan) plan.sleepers plan.sizes.lanes s
+  lanes_pool : (s : BothSt) → KeepsBoth plan s → IsPool threads_in goes noted (KeepsBoth plan) plan.sleepers plan.sizes.lanes s
   lanes_pool s k = record {
     jobs = jobs_in plan s.words;
     phases = k.phases;
@@ -98,20 +99,22 @@ module _ (plan : Plan) where
     sound = k.sound;
     tied = λ id v r me is. let own = (own_thread s k id v r me is).0 in
         (sym (ap (λ (x : ThreadRecord). x.phase) own), ap (λ (x : ThreadRecord). x.workers) own, ap (λ (x : ThreadRecord). x.lanes) own);
-    moves = moves;
+    moves = λ id v r q i y. moves_to id v r q v.deeds i y;
+    notes = λ id v r q d i y. moves_to id v r q (d ∷ v.deeds) i y;
   }
     where
-      moves : (id : ℕ) (v : Both) (r : ThreadRecord) (q : Phase) (i y : ℕ)
+      -- whatever the deeds are
+      moves_to : (id : ℕ) (v : Both) (r : ThreadRecord) (q : Phase) (deeds : List WakeDeed) (i y : ℕ)
           → get_elem? s.views id ≡ some v
           → threads_in v ≡ r ∷ []
           → i < pool.base plan.sleepers
           → IsSound (pool.world_of plan.sleepers plan.sizes.lanes (set s.words i y) (jobs_in plan s.words) (machine.set k.phases r.number q))
-          → KeepsBoth plan (stepped s i y id [] (goes q v) keeps)
-      moves id v r q i y me is below sound = record {
-        lanes = below_lanes s k i y id v (goes q v) (omega (arith, below, k.base_is)) me refl;
+          → KeepsBoth plan (stepped s i y id [] (both v.known (map (in_phase q) v.sleepers) (map (in_phase q) v.others) deeds) keeps)
+      moves_to id v r q deeds i y me is below sound = record {
+        lanes = below_lanes s k i y id v (both v.known (map (in_phase q) v.sleepers) (map (in_phase q) v.others) deeds) (omega (arith, below, k.base_is)) me refl;
         base_is = k.base_is;
         phases = machine.set k.phases r.number q;
-        tied = steps threads_in thread_number s.views k.tied id v me (λ x. thread_at plan (machine.set k.phases r.number q x) x) (goes q v) r (in_phase q r) is
+        tied = steps threads_in thread_number s.views k.tied id v me (λ x. thread_at plan (machine.set k.phases r.number q x) x) (both v.known (map (in_phase q) v.sleepers) (map (in_phase q) v.others) deeds) r (in_phase q r) is
             (sym (map_two (in_phase q) v.sleepers v.others) ∙ ap (map (in_phase q)) is) refl mine others;
         sound = subst (λ (jobs : ℕ → ℕ). IsSound (pool.world_of plan.sleepers plan.sizes.lanes (set s.words i y) jobs (machine.set k.phases r.number q)))
             (λ x j. sym (below_jobs s.words i y (omega (arith, below, k.base_is)) j) x) sound;
@@ -134,18 +137,20 @@ same_threads v r is = turn v.sleepers v.others is
     one : (xs : List ThreadRecord) → xs ≡ r ∷ [] → map (in_phase r.phase) xs ≡ xs
     one xs e = ap (map (in_phase r.phase)) e ∙ sym e
 
-    turn : (xs ys : List ThreadRecord) → xs ++ ys ≡ r ∷ [] → both v.known (map (in_phase r.phase) xs) (map (in_phase r.phase) ys) ≡ both v.known xs ys
-    turn [] ys e = ap (both v.known []) (one ys e)
+    turn : (xs ys : List ThreadRecord) → xs ++ ys ≡ r ∷ [] → both v.known (map (in_phase r.phase) xs) (map (in_phase r.phase) ys) v.deeds ≡ both v.known xs ys v.deeds
+    turn [] ys e = ap (λ (zs : List ThreadRecord). both v.known [] zs v.deeds) (one ys e)
     turn (x ∷ []) ys e = let none : ys ≡ [] = ap (λ (zs : List ThreadRecord). rest_of zs) e in
-        ap (λ (zs : List ThreadRecord). both v.known (map (in_phase r.phase) (x ∷ [])) (map (in_phase r.phase) zs)) none
-        ∙ ap (λ (zs : List ThreadRecord). both v.known zs []) (one (x ∷ []) (ap (λ (zs : List ThreadRecord). x ∷ zs) (sym none) ∙ e))
-        ∙ ap (both v.known (x ∷ [])) (sym none)
+        ap (λ (zs : List ThreadRecord). both v.known (map (in_phase r.phase) (x ∷ [])) (map (in_phase r.phase) zs) v.deeds) none
+        ∙ ap (λ (zs : List ThreadRecord). both v.known zs [] v.deeds) (one (x ∷ []) (ap (λ (zs : List ThreadRecord). x ∷ zs) (sym none) ∙ e))
+        ∙ ap (λ (zs : List ThreadRecord). both v.known (x ∷ []) zs v.deeds) (sym none)
     turn (x ∷ z ∷ xs) ys e = absurd (let long : length ((x ∷ z ∷ xs) ++ ys) ≡ 1 = ap length e in omega (arith, long))
 
-pub pool_law : PoolLaw threads_in goes KeepsBoth (λ plan. plan.sleepers) (λ plan. plan.sizes.lanes)
+pub pool_law : PoolLaw threads_in goes noted KeepsBoth (λ plan. plan.sleepers) (λ plan. plan.sizes.lanes)
 pool_law = record {
   given = λ q v. sym (map_two (in_phase q) v.sleepers v.others);
-  again = λ p q v. λ i. both v.known (last p q v.sleepers i) (last p q v.others i);
+  again = λ p q v. λ i. both v.known (last p q v.sleepers i) (last p q v.others i) v.deeds;
   same = same_threads;
+  unseen = λ d v. refl;
+  stays = λ d q v. refl;
   pool = lanes_pool;
 }

@@ -17,7 +17,7 @@ fn take_one(rt: &impl Abort, alloc: Global, n: u32, k: u32)
     let tree = opened(rt, alloc, n);
     let held = taken(rt, &tree, k, 0);
     tree.release(held);
-    let words = tree.close();
+    let words = tree.close(Vec::new(alloc));
     expect_fresh(rt, &words);
 }
 
@@ -56,7 +56,7 @@ fn a_full_machine_refuses_and_is_whole_again(rt: HostRuntime) {
     let whole = taken(&rt, &tree, 7, 0);
     expect_none(&rt, &tree, 0);
     tree.release(whole);
-    let words = tree.close();
+    let words = tree.close(Vec::new(rt.alloc()));
     expect_fresh(&rt, &words);
 }
 
@@ -76,7 +76,7 @@ fn a_held_processor_leaves_the_other_half(rt: HostRuntime) {
     tree.release(second);
     let whole = taken(&rt, &tree, 20, 0);
     tree.release(whole);
-    let words = tree.close();
+    let words = tree.close(Vec::new(rt.alloc()));
     expect_fresh(&rt, &words);
 }
 
@@ -98,6 +98,6 @@ fn two_blocks_are_apart(rt: HostRuntime) {
             panic!(rt; "no block")
         }
     }
-    let words = tree.close();
+    let words = tree.close(Vec::new(rt.alloc()));
     expect_fresh(&rt, &words);
 }

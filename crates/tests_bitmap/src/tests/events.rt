@@ -68,7 +68,7 @@ fn a_million_events_are_those_of_a_model(rt: HostRuntime) {
     release_all(&tree, kept);
     let whole = taken(&rt, &tree, 12, 0);
     tree.release(whole);
-    let words = tree.close();
+    let words = tree.close(Vec::new(rt.alloc()));
     expect_fresh(&rt, &words);
     assert!(rt; stage.faults == 0);
     assert!(rt; stage.given > 200_000 && stage.refused > 10_000 && stage.joins > 1000);
@@ -85,11 +85,11 @@ fn expect_marks(tree: &BitmapTree, stage: &mut Stage)
         let is_free = stage.model.has_free(k);
         let processor = stage.below(4096);
         match tree.take_quick(k, processor) {
-            Some(held) => {
+            Ok(held) => {
                 tree.release(held);
                 stage.fault_if(!is_free);
             }
-            None => stage.fault_if(is_free),
+            Err(_seat) => stage.fault_if(is_free),
         }
     }
 }
@@ -143,6 +143,6 @@ fn no_mark_stays_after_a_crowd(rt: HostRuntime) {
     drain(&tree, &mut kept, &mut stage);
     assert!(rt; kept.is_empty() && stage.faults == 0);
     kept.destroy_empty();
-    let words = tree.close();
+    let words = tree.close(Vec::new(rt.alloc()));
     expect_fresh(&rt, &words);
 }

@@ -27,11 +27,11 @@ pub(crate) fn taken(rt: &impl Abort, tree: &BitmapTree, k: u32, base: u64) -> He
     ensures { IsHeldOf tree.now result }
 {
     match tree.take_quick(k, 0) {
-        Some(held) => {
+        Ok(held) => {
             assert!(rt; held.region() == Region { base, dim: k });
             held
         }
-        None => panic!(rt; "no block"),
+        Err(_) => panic!(rt; "no block"),
     }
 }
 
@@ -55,18 +55,18 @@ pub(crate) fn expect_none(rt: &impl Abort, tree: &BitmapTree, k: u32)
     requires fits { k ≤ dim_of tree.now }
 {
     match tree.take_quick(k, 0) {
-        Some(held) => {
+        Ok(held) => {
             tree.release(held);
             panic!(rt; "a block by the marks")
         }
-        None => {}
+        Err(_) => {}
     }
     match tree.take(k, 0) {
         Ok(held) => {
             tree.release(held);
             panic!(rt; "a block")
         }
-        Err(refused) => assert!(rt; refused.contended == 0),
+        Err(refused) => assert!(rt; !refused.disturbed),
     }
 }
 
@@ -103,6 +103,6 @@ pub(crate) fn in_use(rt: &impl Abort, tree: &BitmapTree, k: u32, number: u64)
             tree.release(held);
             panic!(rt; "free")
         }
-        Err(refused) => assert!(rt; refused.contended == 0),
+        Err(refused) => assert!(rt; !refused.disturbed),
     }
 }

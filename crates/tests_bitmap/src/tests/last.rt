@@ -64,6 +64,6 @@ fn the_last_block_of_a_large_machine_is_found(rt: HostRuntime) {
     for processor in [0, 1 << 19, 700_001, (1 << 20) - 1] {
         find_last(&rt, rt.alloc(), &tree, processor);
     }
-    let words = tree.close();
+    let words = tree.close(Vec::new(rt.alloc()));
     expect_fresh(&rt, &words);
 }

@@ -25,7 +25,7 @@ fn a_named_block_is_in_use_in_each_part(rt: HostRuntime) {
     tree.release(upper);
     let whole = named(&rt, &tree, 13, 0);
     tree.release(whole);
-    let words = tree.close();
+    let words = tree.close(Vec::new(rt.alloc()));
     expect_fresh(&rt, &words);
 }
 
@@ -63,7 +63,7 @@ fn halves_of_each_dimension_are_joined(rt: HostRuntime) {
             tree.release(held);
         }
     }
-    let words = tree.close();
+    let words = tree.close(Vec::new(rt.alloc()));
     expect_fresh(&rt, &words);
 }
 
@@ -81,6 +81,6 @@ fn a_half_is_released_alone(rt: HostRuntime) {
     } else {
         tree.release(held);
     }
-    let words = tree.close();
+    let words = tree.close(Vec::new(rt.alloc()));
     expect_fresh(&rt, &words);
 }

@@ -17,12 +17,12 @@ fn expect_near(rt: &impl Abort, tree: &BitmapTree, k: u32, processor: u64, size:
     requires size { size < 64 }
 {
     match tree.take_quick(k, processor) {
-        Some(held) => {
+        Ok(held) => {
             let base = held.region().base;
             tree.release(held);
             assert!(rt; base >> size == processor >> size);
         }
-        None => panic!(rt; "no block by the marks"),
+        Err(_) => panic!(rt; "no block by the marks"),
     }
     match tree.take(k, processor) {
         Ok(held) => {
@@ -54,7 +54,7 @@ fn a_take_begins_at_the_word_of_its_processor(rt: HostRuntime) {
     tree.release(first);
     tree.release(second);
     tree.release(third);
-    let words = tree.close();
+    let words = tree.close(Vec::new(rt.alloc()));
     expect_fresh(&rt, &words);
 }
 
@@ -73,7 +73,7 @@ fn expect_starts(rt: &impl Abort, alloc: Global, n: u32, lines: u32, words: u32)
     }
     assert!(rt; seen_lines.trailing_ones() == lines && seen_lines.count_ones() == lines);
     assert!(rt; seen_words.count_ones() == words);
-    let words = tree.close();
+    let words = tree.close(Vec::new(alloc));
     expect_fresh(rt, &words);
 }
 

@@ -26,34 +26,6 @@ fn take_and_release(rt: &impl Abort, tree: &BitmapTree, permit: Permit) -> Permi
     }
 }
 
-// Takes a block by a permit, splits it by another, and joins the halves again. The first word is
-// open as a spare, so the block is that of the second.
-fn split_and_join(
-    rt: &impl Abort,
-    tree: &BitmapTree,
-    first: Permit,
-    second: Permit,
-) -> (Permit, Permit)
-    requires first { IsPermitOf tree.now first }
-    requires second { IsPermitOf tree.now second }
-    requires dim { dim_of tree.now ≡ 9 }
-    ensures { IsPermitOf tree.now result.0 × IsPermitOf tree.now result.1 }
-{
-    match tree.take_by_permit(first, 6, 0) {
-        Ok(held) => {
-            let (lower, upper) = tree.split_by_permit(held, second);
-            assert!(rt; upper.region() == Region { base: 96, dim: 5 });
-            let (whole, permit) = tree.join_to_permit(lower, upper);
-            assert!(rt; whole.region() == Region { base: 64, dim: 6 });
-            (tree.release_to_permit(whole), permit)
-        }
-        Err((permit, _)) => {
-            assert!(rt; false);
-            (permit, second)
-        }
-    }
-}
-
 // Takes the whole machine by a permit. Then a take by another permit is refused, which comes back.
 fn refuse_one(rt: &impl Abort, tree: &BitmapTree, first: Permit, second: Permit) -> (Permit, Permit)
     requires first { IsPermitOf tree.now first }
@@ -64,8 +36,8 @@ fn refuse_one(rt: &impl Abort, tree: &BitmapTree, first: Permit, second: Permit)
     match tree.take_by_permit(first, 9, 511) {
         Ok(held) => match tree.take_by_permit(second, 0, 511) {
             Ok(_) => panic!(rt; "a processor of a full machine"),
-            Err((second, contended)) => {
-                assert!(rt; contended == 0);
+            Err((second, disturbed)) => {
+                assert!(rt; !disturbed);
                 (tree.release_to_permit(held), second)
             }
         },
@@ -85,7 +57,6 @@ fn all_permits_come_back(rt: HostRuntime) {
     let Some(other) = permits.pop() else {
         unreachable!()
     };
-    let (permit, other) = split_and_join(&rt, &tree, permit, other);
     let (permit, other) = refuse_one(&rt, &tree, permit, other);
     permits.push_reserved(permit);
     permits.push_reserved(other);

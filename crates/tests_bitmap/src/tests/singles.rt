@@ -143,6 +143,6 @@ fn each_processor_has_a_holder_of_its_own(rt: HostRuntime) {
     assert!(rt; end_places(&tree, places) == 0);
     let whole = taken(&rt, &tree, 12, 0);
     tree.release(whole);
-    let words = tree.close();
+    let words = tree.close(Vec::new(rt.alloc()));
     expect_fresh(&rt, &words);
 }

@@ -107,14 +107,14 @@ pub(crate) fn stage_of(rt: &impl Abort, alloc: Global) -> Stage {
     }
 }
 
-// Makes a take: of this block, or of one of its dimension near a processor. Returns the number of
-// contended words if it is refused.
+// Makes a take: of this block, or of one of its dimension near a processor. Returns whether it was
+// disturbed if it is refused.
 fn attempt(
     tree: &BitmapTree,
     form: TakeForm,
     asked: Region,
     processor: u64,
-) -> Result<HeldBlock, u32>
+) -> Result<HeldBlock, bool>
     requires anyone { permits_of tree.now ≡ 0 }
     requires dim { dim_of tree.now ≡ 12 }
     requires asked { IsAligned 12 asked }
@@ -124,8 +124,8 @@ fn attempt(
     let taken = match form {
         TakeForm::Quick => {
             return match tree.take_quick(asked.dim, processor) {
-                Some(held) => Ok(held),
-                None => Err(0),
+                Ok(held) => Ok(held),
+                Err(_seat) => Err(false),
             };
         }
         TakeForm::Exact => tree.take(asked.dim, processor),
@@ -133,7 +133,7 @@ fn attempt(
     };
     match taken {
         Ok(held) => Ok(held),
-        Err(refused) => Err(refused.contended),
+        Err(refused) => Err(refused.disturbed),
     }
 }
 
@@ -162,8 +162,8 @@ pub(crate) fn take_some(
             stage.count(form, asked, Some(held.region()));
             kept.push_reserved(held);
         }
-        Err(contended) => {
-            stage.fault_if(contended != 0);
+        Err(disturbed) => {
+            stage.fault_if(disturbed);
             stage.count(form, asked, None);
         }
     }

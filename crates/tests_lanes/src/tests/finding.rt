@@ -9,9 +9,9 @@ use std::process::Abort;
 use wake_calls::Wake;
 
 // Enough tries for a call that is to reach its end.
-const TRIES: u32 = 16;
+pub const TRIES: u32 = 16;
 
-fn sizes(lanes: u32, workers: u32) -> Sizes
+pub fn sizes(lanes: u32, workers: u32) -> Sizes
     ensures lanes { result.lanes ≡ lanes }
     ensures workers { result.workers ≡ workers }
     ensures capacity { result.capacity ≡ 4 }
@@ -23,7 +23,7 @@ fn sizes(lanes: u32, workers: u32) -> Sizes
     }
 }
 
-fn find(lanes: &Lanes, finder: &mut Finder, tries: u32) -> Finding
+pub fn find(lanes: &Lanes, finder: &mut Finder, tries: u32) -> Finding
     requires id { finder.old.id ≡ lanes.now }
     requires some { 0 < lanes.now.plan.sizes.lanes }
     ensures { finder.new.id ≡ lanes.now }
@@ -31,14 +31,14 @@ fn find(lanes: &Lanes, finder: &mut Finder, tries: u32) -> Finding
     lanes.find(finder, 0, tries)
 }
 
-fn awake(lanes: &Lanes, finder: &mut Finder) -> bool
+pub fn awake(lanes: &Lanes, finder: &mut Finder) -> bool
     requires { finder.old.id ≡ lanes.now }
     ensures { finder.new.id ≡ lanes.now }
 {
     lanes.awake(finder)
 }
 
-fn wake(lanes: &Lanes, lane: &mut Lane) -> Wake
+pub fn wake(lanes: &Lanes, lane: &mut Lane) -> Wake
     requires { lane.old.id ≡ lanes.now }
     ensures { lane.new.id ≡ lanes.now }
 {
@@ -53,12 +53,12 @@ fn wake_more(lanes: &Lanes, finder: &mut Finder) -> Option<u32>
 }
 
 // Returns what a worker found that woke no other.
-fn only(found: Found) -> Finding {
+pub fn only(found: Found) -> Finding {
     Finding { found, woken: None }
 }
 
 // Returns a worker that may sleep.
-fn finder_of(rt: &impl Abort, worker: Worker) -> Finder
+pub fn finder_of(rt: &impl Abort, worker: Worker) -> Finder
     ensures { result.id ≡ worker.id }
 {
     match worker.into_finder() {
@@ -68,7 +68,7 @@ fn finder_of(rt: &impl Abort, worker: Worker) -> Finder
 }
 
 // Drops a worker that is to be idle.
-fn idle_abandoned(rt: &impl Abort, finder: Finder) {
+pub fn idle_abandoned(rt: &impl Abort, finder: Finder) {
     match finder.into_worker() {
         Ok(worker) => worker.abandon(),
         Err(_finder) => panic!(rt; "the worker is not idle"),
@@ -93,7 +93,7 @@ fn sleepless_abandoned(rt: &impl Abort, worker: Worker) {
     }
 }
 
-fn ended(note: Note, lane: Lane) {
+pub fn ended(note: Note, lane: Lane) {
     note.abandon();
     lane.abandon();
 }
@@ -205,7 +205,13 @@ fn a_woken_worker_wakes_another_for_more(rt: HostRuntime) {
 }
 
 // Deals out this number of workers, and drops them.
-fn deal_and_drop(rt: &impl Abort, alloc: Global, lanes: &Lanes, members: &mut Members, count: u32)
+pub fn deal_and_drop(
+    rt: &impl Abort,
+    alloc: Global,
+    lanes: &Lanes,
+    members: &mut Members,
+    count: u32,
+)
     requires members { members.old.id ≡ lanes.now }
     requires workers { members.old.dealt_workers + count ≤ lanes.now.plan.sizes.workers }
     ensures members { members.new.id ≡ lanes.now }

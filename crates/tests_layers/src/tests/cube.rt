@@ -284,27 +284,19 @@ fn refusals_are_counted(rt: HostRuntime) {
 }
 
 #[test]
-fn a_search_peeks_at_what_refused_an_earlier_one(rt: HostRuntime) {
+fn a_search_tries_what_has_become_free_since_it_refused(rt: HostRuntime) {
     let (cube, first, second) = opened_pair(&rt, rt.alloc(), 2);
     let first = given(&rt, &cube, try_node(&cube, first, 2), 0, 1);
-    // The roll-back of a try under node 2 leaves a mark there.
+    // The station remembers the half that refused it, and each search begins after this half.
     let second = found(&rt, &cube, second, 0, 2);
-    let is_marked = cube.word(2) != 7;
-    let first = given(&rt, &cube, try_node(&cube, released(&cube, first), 2), 0, 1);
-    let is_anew = cube.word(2) == 7;
-    // No later search leaves a mark, neither for a processor nor for a half.
     let second = found(&rt, &cube, released(&cube, second), 0, 2);
     let second = found(&rt, &cube, released(&cube, second), 1, 2);
-    let is_unmarked = cube.word(2) == 7;
-    // The half is free again, so the next search tries it.
+    // The half is free again, so the next search begins with it.
     let first = released(&cube, first);
     let second = found(&rt, &cube, released(&cube, second), 0, 0);
     first.retire(&cube);
     leave(&cube, second);
-    expect_all(
-        &rt,
-        &[is_marked, is_anew, is_unmarked, is_free(&closed(&rt, cube))],
-    );
+    expect_all(&rt, &[is_free(&closed(&rt, cube))]);
 }
 
 #[test]

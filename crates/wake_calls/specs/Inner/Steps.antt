@@ -6,10 +6,12 @@ use Rattle.wake_pool.specs.declared.layout.TheConstants.{WORD_WORKERS}
 use Rattle.wake_pool.specs.declared.phase.WakePhase.{WakePhase as Phase}
 use Rattle.wake_pool.specs.declared.phase.WakePhase.TheVariants.{Idle, Giving, Calling, Searching, Found, Reading, Called, Checking, Parked}
 use Rattle.wake_pool.specs.Schedule.{waking, looking, resting}
-use Rattle.wake_pool.specs.Words.{word_count, word_of, bit_of, mail_at}
+use Rattle.wake_pool.specs.Words.{word_count, word_of, bit_of, token_at, mail_at}
 use Rattle.wake_pool.specs.Inner.Bits.{woken}
+use Rattle.wake_calls.specs.declared.deed.WakeDeed.{WakeDeed}
+use Rattle.wake_calls.specs.declared.deed.WakeDeed.TheVariants.{Gave, RoseForCall, TookCall}
 use Rattle.wake_calls.specs.declared.rule.ThreadRecord.{ThreadRecord}
-use Rattle.wake_calls.specs.Thread.{moved, number_of}
+use Rattle.wake_calls.specs.Thread.{moved, noting, number_of}
 
 -- the first of a seat's threads
 abbrev pub first_in : List ThreadRecord → ThreadRecord
@@ -78,9 +80,6 @@ module _ {V : Type 0} (threads : V → List ThreadRecord) (goes : Phase → V �
       → st.second ≡ woken (bit_of x) st.first → IsNow m n (Giving x))
       × (found ≢ st.first → n ≡ m)
 
-  abbrev pub gives_at : Telling
-  gives_at st m found n = IsNow m n Idle
-
   abbrev pub stays_at : Telling
   stays_at st m found n =
       (HasSearcher found → IsNow m n Reading)
@@ -92,10 +91,6 @@ module _ {V : Type 0} (threads : V → List ThreadRecord) (goes : Phase → V �
 
   abbrev pub reads_at : Telling
   reads_at st m found n = (found ≡ 1 → IsNow m n Called) × (found ≢ 1 → IsNow m n Checking)
-
-  abbrev pub rises_at : Telling
-  rises_at st m found n =
-      (HasBit m found → IsNow m n Idle) × ((HasBit m found → ⊥) → IsNow m n Found)
 
   abbrev pub checks_at : Telling
   checks_at st m found n =
@@ -115,9 +110,26 @@ module _ {V : Type 0} (threads : V → List ThreadRecord) (goes : Phase → V �
       (bit_at found (bit_of (to_of (threads m.0))) ≡ 1 → IsNow m n (Giving (to_of (threads m.0))))
       × ((bit_at found (bit_of (to_of (threads m.0))) ≡ 1 → ⊥) → IsNow m n Idle)
 
-  -- an idle thread takes its call, and so does the searcher
-  abbrev pub takes_call_at : Telling
-  takes_call_at st m found n = n ≡ m
+  -- ---- the steps that leave a note
 
-  abbrev pub finds_call_at : Telling
-  finds_call_at st m found n = IsNow m n Found
+  module _ (noted : WakeDeed → V → V) where
+    -- the seat's thread is in this phase now, and has done this
+    abbrev pub HasDone : Sat → Sat → Phase → WakeDeed → Type 0
+    HasDone m n q d = n ≡ noting noted d (moved goes q m)
+
+    -- the token is that of x
+    abbrev pub gives_at : Telling
+    gives_at st m found n =
+        (x : ℕ) → token_at (workers_of (threads m.0)) x ≡ st.word → HasDone m n Idle (Gave x)
+
+    abbrev pub rises_at : Telling
+    rises_at st m found n =
+        (HasBit m found → HasDone m n Idle RoseForCall)
+        × ((HasBit m found → ⊥) → IsNow m n Found)
+
+    -- an idle thread takes its call, and so does the searcher
+    abbrev pub takes_call_at : Telling
+    takes_call_at st m found n = n ≡ noting noted TookCall m
+
+    abbrev pub finds_call_at : Telling
+    finds_call_at st m found n = HasDone m n Found TookCall

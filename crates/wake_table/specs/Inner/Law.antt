@@ -19,7 +19,7 @@ use Rattle.wake_table.specs.declared.board.BoardSizes.{BoardSizes as Sizes}
 use Rattle.wake_table.specs.declared.rule.BoardView.{BoardView as View}
 use Rattle.wake_table.specs.Board.{thread_count, lane_at, record_of}
 use Rattle.wake_table.specs.Inner.Rule.{St, threads_in, number_of, view, jobs_in, recorded, Keeps}
-use Rattle.wake_table.specs.Inner.Steps.{goes}
+use Rattle.wake_table.specs.Inner.Steps.{goes, noted}
 
 -- a record that a seat has alone
 pub own_record : (sizes : Sizes) (s : St) (h : Keeps sizes s) (id : ℕ) (v : View) (r : ThreadRecord)
@@ -52,7 +52,7 @@ moves_to sizes s h id v r q i y me is sound = record {
     others : (k : ℕ) → k ≢ r.number → recorded sizes (set h.phases r.number q) k ≡ recorded sizes h.phases k
     others k other = ap (λ (p : Phase). record_of sizes k p) (set_else h.phases r.number q k other)
 
-board_pool : (sizes : Sizes) (s : St) → Keeps sizes s → IsPool threads_in goes (Keeps sizes) sizes.workers sizes.lanes s
+board_pool : (sizes : Sizes) (s : St) → Keeps sizes s → IsPool threads_in goes noted (Keeps sizes) sizes.workers sizes.lanes s
 board_pool sizes s h = record {
   jobs = jobs_in sizes s.words;
   phases = h.phases;
@@ -63,16 +63,21 @@ board_pool sizes s h = record {
   moves = λ id v r q i y me is below sound. moves_to sizes s h id v r q i y me is
       (subst (λ (jobs : ℕ → ℕ). IsSound (world_of sizes.workers sizes.lanes (common.set s.words i y) jobs (set h.phases r.number q)))
       (λ j l. sym (get_or-set_other s.words i (lane_at sizes l) y 0 (λ e. omega (arith, e, below))) j) sound);
+  notes = λ id v r q d i y me is below sound. moves_to sizes s h id v r q i y me is
+      (subst (λ (jobs : ℕ → ℕ). IsSound (world_of sizes.workers sizes.lanes (common.set s.words i y) jobs (set h.phases r.number q)))
+      (λ j l. sym (get_or-set_other s.words i (lane_at sizes l) y 0 (λ e. omega (arith, e, below))) j) sound);
 }
 
 last : (p q : Phase) (rs : List ThreadRecord) → map (in_phase q) (map (in_phase p) rs) ≡ map (in_phase q) rs
 last p q [] = refl
 last p q (r ∷ rs) = ap (λ (xs : List ThreadRecord). in_phase q r ∷ xs) (last p q rs)
 
-pub board_law : PoolLaw threads_in goes Keeps (λ sizes. sizes.workers) (λ sizes. sizes.lanes)
+pub board_law : PoolLaw threads_in goes noted Keeps (λ sizes. sizes.workers) (λ sizes. sizes.lanes)
 board_law = record {
   given = λ q v. refl;
   again = λ p q v. ap view (last p q v.threads);
   same = λ v r is. ap view (ap (map (in_phase r.phase)) is ∙ sym is);
+  unseen = λ d v. refl;
+  stays = λ d q v. refl;
   pool = board_pool;
 }

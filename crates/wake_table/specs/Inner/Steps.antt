@@ -5,6 +5,7 @@ use Rattle.wake_pool.specs.declared.phase.WakePhase.{WakePhase as Phase}
 use Rattle.wake_pool.specs.declared.phase.WakePhase.TheVariants.{Found, Looking, Resting, Returning}
 use Rattle.wake_pool.specs.Schedule.{waking, looking, resting}
 use Rattle.wake_pool.specs.Words.{word_count}
+use Rattle.wake_calls.specs.declared.deed.WakeDeed.{WakeDeed}
 use Rattle.wake_calls.specs.declared.rule.ThreadRecord.{ThreadRecord}
 use Rattle.wake_calls.specs.Pool.{in_phase}
 use Rattle.wake_calls.specs.Inner.Steps.{goes_by}
@@ -20,6 +21,10 @@ Telling = Step (Unit {0}) → Sat → ℕ → Sat → Type 0
 -- The view once its threads have gone on to this phase.
 abbrev pub goes : Phase → View → View
 goes q v = view (map (in_phase q) v.threads)
+
+-- A view of a board has no deeds.
+abbrev pub noted : WakeDeed → View → View
+noted d v = v
 
 abbrev pub goes_to : (ThreadRecord → Phase) → Sat → Sat
 goes_to q m = goes_by threads_in goes q m

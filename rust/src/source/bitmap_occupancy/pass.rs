@@ -2,7 +2,7 @@
 //! Loads of the words of a machine, each at its first processor.
 
 use crate::source::bitmap_occupancy::processors::LEVELS;
-use crate::source::bitmap_tree::{BitmapTree, BlockSeat};
+use crate::source::bitmap_tree::{BitmapTree, BlankSeat};
 
 // The first word of the level that has this many levels above it.
 fn first_word(above: u32) -> u32 {
@@ -26,7 +26,7 @@ fn word_from(n: u32, level: u32, processor: u64) -> Option<u32> {
 // Reads the word of a level if a processor is its first.
 fn read_word(
     tree: &BitmapTree,
-    seat: &mut BlockSeat,
+    seat: &mut BlankSeat,
     path: &mut [u64; LEVELS],
     processor: u64,
     level: u32,
@@ -40,7 +40,7 @@ fn read_word(
 // Reads the words of which a processor is the first, the top word apart.
 pub(crate) fn read_words(
     tree: &BitmapTree,
-    seat: &mut BlockSeat,
+    seat: &mut BlankSeat,
     path: &mut [u64; LEVELS],
     processor: u64,
 ) {

@@ -5,7 +5,7 @@ use crate::source::bitmap_occupancy::counter::{Counter, add};
 use crate::source::bitmap_occupancy::pass::read_words;
 use crate::source::bitmap_occupancy::processors::{LEVELS, is_held};
 use crate::source::bitmap_occupancy::summary::{FREE_PLACES, Occupancy};
-use crate::source::bitmap_tree::{BitmapTree, BlockSeat};
+use crate::source::bitmap_tree::{BitmapTree, BlankSeat};
 
 // Returns the largest dimension at which a count is not 0.
 fn largest_free(free: &[u64; FREE_PLACES]) -> Option<u32> {
@@ -19,14 +19,14 @@ fn largest_free(free: &[u64; FREE_PLACES]) -> Option<u32> {
 }
 
 /// Counts the free blocks and the held processors of a machine. Reads each word once, and returns
-/// the seat that knows what the loads found.
+/// the seat that knows what the loads found. It has no bit, so no
+/// bit changes.
 ///
 /// # Clauses of the proved source
 ///
 /// - ensures table: `result.1.table_id ≡ id_of tree.now`
 /// - ensures counted: `IsCountOf (dim_of tree.now) result.1.me.0.trail result.0`
-/// - ensures no_slot: `result.1.me.1 ≡ []`
-pub fn occupancy(tree: &BitmapTree) -> (Occupancy, BlockSeat) {
+pub fn occupancy(tree: &BitmapTree) -> (Occupancy, BlankSeat) {
     let n = tree.dim();
     let (top, mut seat) = tree.read_top();
     let mut path = [top; LEVELS];

@@ -1,17 +1,23 @@
 // Made from crates/bitmap_tree/src/block_takes.rt by checks/lib/erase.py. Change that file.
 //! Takes of one block that is named, and of the blocks on the way down to it.
 
-use crate::source::bitmap_tree::handles::{BitmapTree, Seat};
+use crate::source::bitmap_tree::handles::BitmapTree;
 use crate::source::bitmap_tree::layout::{block_at, first_word};
 use crate::source::bitmap_tree::mask::mask_of;
 use crate::source::bitmap_tree::search::TRIES;
+use crate::source::bitmap_tree::steps::BlockSeat;
 use crate::source::bitmap_tree::view::Run;
 use crate::source::cube_shape::Region;
 
 impl BitmapTree {
     // Takes one block in its word. Where it does not, the number is 1 if it gave up after `tries`
     // lost exchanges, and else 0.
-    pub(crate) fn take_block(&self, seat: &mut Seat, block: Region, tries: u32) -> Result<(), u32> {
+    pub(crate) fn take_block(
+        &self,
+        seat: &mut BlockSeat,
+        block: Region,
+        tries: u32,
+    ) -> Result<(), u32> {
         let level = block.dim / 6;
         let place = block.base >> (6 * level);
         let word = first_word(self.size.dim / 6 - level) + (place / 64) as u32;
@@ -32,7 +38,7 @@ impl BitmapTree {
     }
 
     // Opens the word under a unit that the seat has, and keeps one block of it.
-    fn open_under(&self, seat: &mut Seat, unit: Region, block: Region) {
+    fn open_under(&self, seat: &mut BlockSeat, unit: Region, block: Region) {
         let level = block.dim / 6;
         let place = block.base >> (6 * level);
         let number = (place / 64) as u32;
@@ -47,7 +53,7 @@ impl BitmapTree {
     }
 
     // Opens the words from a unit down to a block of it, which the seat then has.
-    pub(crate) fn descend(&self, seat: &mut Seat, unit: Region, block: Region) {
+    pub(crate) fn descend(&self, seat: &mut BlockSeat, unit: Region, block: Region) {
         let top = unit.dim / 6;
         let mut upper = unit;
         for down in 1..top - block.dim / 6 {
@@ -60,7 +66,7 @@ impl BitmapTree {
 
     // Opens the words from a unit down to its first block of dimension `k`, which the seat then
     // has.
-    pub(crate) fn descend_first(&self, seat: &mut Seat, unit: Region, k: u32) -> Region {
+    pub(crate) fn descend_first(&self, seat: &mut BlockSeat, unit: Region, k: u32) -> Region {
         let block = Region {
             base: unit.base,
             dim: k,
@@ -71,7 +77,7 @@ impl BitmapTree {
 
     // Takes one block: in its word, and else from the unit around it in a level above, the lowest
     // first.
-    pub(crate) fn take_path(&self, seat: &mut Seat, block: Region) -> Result<(), u32> {
+    pub(crate) fn take_path(&self, seat: &mut BlockSeat, block: Region) -> Result<(), u32> {
         let mut contended = 0;
         for level in block.dim / 6..self.size.dim / 6 + 1 {
             let unit = block_at(block.base, block.dim.max(6 * level));
@@ -87,7 +93,7 @@ impl BitmapTree {
     }
 
     // Opens the words from a unit down to a block of it, unless the unit is the block.
-    fn descend_to(&self, seat: &mut Seat, unit: Region, block: Region, level: u32) {
+    fn descend_to(&self, seat: &mut BlockSeat, unit: Region, block: Region, level: u32) {
         if block.dim / 6 >= unit.dim / 6 {
             return;
         }

@@ -3,8 +3,9 @@
 
 use crate::source::kit::prelude::{Vec};
 
-use crate::source::bitmap_tree::handles::{BitmapTree, Seat};
+use crate::source::bitmap_tree::handles::{BitmapTree, HeldBlock};
 use crate::source::bitmap_tree::mask::mask_of;
+use crate::source::bitmap_tree::steps::BlockSeat;
 use crate::source::cube_shape::MAX_BITMAP_DIM;
 
 // Shuts a word where it is 0, and clears the bit of its unit.
@@ -28,46 +29,53 @@ fn shut_all(n: u32, words: &mut Vec<u64>) {
 }
 
 impl BitmapTree {
-    /// Ends the machine. Returns its words, once those that are 0 are shut.
+    /// Ends the machine, with these blocks held in it. Returns its words, once those that are 0 are
+    /// shut.
     ///
-    /// They are the words of a state that meets the rule. Where no bit of it is held, they are the
-    /// words of a machine in which nothing was ever taken.
+    /// They are the words of a state that meets the rule, in which each block that comes in is
+    /// held. Where no bit is held, they are the words of a machine in which nothing was ever taken.
     ///
     /// # Clauses of the proved source
     ///
-    /// - ensures: `IsEnded (dim_of self) result.items`
-    pub fn close(self) -> Vec<u64> {
-        let BitmapTree {
-            table,
-            size,
-            marks: _,
-            spares: _,
-            mut room,
-        } = self;
-        let closed = table.close();
-        for word in 0..room.len() {
-            room[word] = closed.word(word);
-        }
-        closed.free();
-        shut_all(size.dim, &mut room);
-        room
+    /// - requires: `All (IsHeldOf self) held.items`
+    /// - ensures: `AreEnded (dim_of self) held.items result.items`
+    pub fn close(self, held: Vec<HeldBlock>) -> Vec<u64> {
+        let seat = self.gather_blocks(held);
+        self.close_by(seat)
     }
 
-    // Ends the machine, by the seat that has all its permits.
-    pub(crate) fn close_by(self, seat: Seat) -> Vec<u64> {
+    // Ends the machine by a seat. Its words are those of a state in which the runs of the seat are
+    // held, and perhaps others.
+    pub(crate) fn close_by(self, seat: BlockSeat) -> Vec<u64> {
         let BitmapTree {
-            table,
+            bits,
             size,
             marks: _,
             spares: _,
-            mut room,
+            room,
         } = self;
-        let closed = table.close_with(seat);
-        for word in 0..room.len() {
-            room[word] = closed.word(word);
+        let mut words = bits.end(seat, room);
+        shut_all(size.dim, &mut words);
+        words
+    }
+
+    // Makes one seat of those of held blocks.
+    fn gather_blocks(&self, mut held: Vec<HeldBlock>) -> BlockSeat {
+        let mut seat = self.enter(0);
+        while let Some(block) = held.pop() {
+            self.gather_block(&mut seat, block);
         }
-        closed.free();
-        shut_all(size.dim, &mut room);
-        room
+        held.destroy_empty();
+        seat
+    }
+
+    // Adds the run of a held block to those of a seat.
+    fn gather_block(&self, seat: &mut BlockSeat, block: HeldBlock) {
+        let HeldBlock {
+            region: _,
+            dim: _,
+            seat: other,
+        } = block;
+        self.merge(seat, other);
     }
 }

@@ -1,14 +1,15 @@
 // Made from crates/bitmap_tree/src/halves.rt by checks/lib/erase.py. Change that file.
 //! A held block is split into its halves, and two halves are joined. No bit changes.
 
-use crate::source::bitmap_tree::handles::{BitmapTree, HeldBlock, Seat};
+use crate::source::bitmap_tree::handles::{BitmapTree, HeldBlock};
 use crate::source::bitmap_tree::layout::first_word;
+use crate::source::bitmap_tree::steps::BlockSeat;
 use crate::source::cube_shape::Region;
 
 impl BitmapTree {
     // Opens the word under a unit that is to be split. All bits of the word are the seat's, so none
     // changes.
-    fn open_whole_unit(&self, seat: &mut Seat, region: Region) {
+    fn open_whole_unit(&self, seat: &mut BlockSeat, region: Region) {
         if region.dim % 6 != 0 {
             return;
         }
@@ -67,7 +68,7 @@ impl BitmapTree {
     }
 
     // Shuts the word of a unit of which the seat has all bits, so that none changes.
-    fn shut_whole_unit(&self, seat: &mut Seat, region: Region) {
+    fn shut_whole_unit(&self, seat: &mut BlockSeat, region: Region) {
         if region.dim % 6 != 0 {
             return;
         }

@@ -4,19 +4,14 @@
 use crate::source::kit::prelude::{Vec};
 
 use crate::source::bitmap_tree::marks::Marks;
-use crate::source::bitmap_tree::rule::BitmapRule;
 use crate::source::bitmap_tree::spares::Spares;
-use crate::source::bitmap_tree::view::{Run, Size, View};
-use crate::source::kit::atomic_table::Table;
+use crate::source::bitmap_tree::steps::{BlankSeat, BlockSeat, Words};
+use crate::source::bitmap_tree::view::Size;
 use crate::source::cube_shape::Region;
-use crate::source::kit::alloc::Global;
-
-/// A seat at the table of a machine. It has no bytes.
-pub type Seat = crate::source::kit::atomic_table::Seat<Run, View>;
 
 /// The bitmaps of a machine, which threads share by `&`.
 pub struct BitmapTree {
-    pub(crate) table: Table<Run, View, Size, BitmapRule, Global>,
+    pub(crate) bits: Words,
     pub(crate) size: Size,
     // Where a search need not look, for each level below the top, and which words stay open.
     pub(crate) marks: Vec<Marks>,
@@ -30,24 +25,23 @@ pub struct BitmapTree {
 pub struct HeldBlock {
     pub(crate) region: Region,
     pub(crate) dim: u32,
-    pub(crate) seat: Seat,
+    pub(crate) seat: BlockSeat,
 }
 
 /// A take that was refused, and what its steps found.
 pub struct Refused {
-    /// The number of words that it gave up, in each of which it lost several exchanges to other
-    /// calls.
-    pub contended: u32,
-    pub(crate) seat: Seat,
+    /// Whether it gave up a word, in which it lost several exchanges to other calls.
+    pub disturbed: bool,
+    pub(crate) seat: BlankSeat,
 }
 
 /// A block that was released, and what the steps of the release changed.
 pub struct Released {
-    pub(crate) seat: Seat,
+    pub(crate) seat: BlankSeat,
 }
 
 /// The right to hold one block at a time, in a machine that has permits. It cannot be dropped.
 #[must_use = "the proved source spends each value of this type by a call"]
 pub struct Permit {
-    pub(crate) seat: Seat,
+    pub(crate) seat: BlockSeat,
 }

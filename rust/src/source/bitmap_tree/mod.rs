@@ -19,9 +19,7 @@ pub(crate) mod marks;
 pub(crate) mod mask;
 pub(crate) mod opening;
 pub(crate) mod parts;
-pub(crate) mod permit_halves;
 pub(crate) mod permits;
-pub(crate) mod reading;
 pub(crate) mod releases;
 pub(crate) mod rule;
 pub(crate) mod scan;
@@ -34,5 +32,6 @@ pub(crate) mod view;
 
 pub use crate::source::cube_shape::{MAX_BITMAP_DIM, Region};
 pub use handles::{BitmapTree, HeldBlock, Permit, Refused, Released};
-pub use parts::{BlockSeat, BlockView};
+pub use parts::BlockView;
+pub use steps::{BlankSeat, BlockSeat, HiddenSeat};
 pub use view::Run;

@@ -3,12 +3,12 @@
 
 use crate::source::kit::prelude::{Vec, vec};
 
-use crate::source::bitmap_tree::handles::{BitmapTree, Seat};
+use crate::source::bitmap_tree::handles::BitmapTree;
 use crate::source::bitmap_tree::layout::words_of;
 use crate::source::bitmap_tree::marks::Marks;
 use crate::source::bitmap_tree::spares::Spares;
+use crate::source::bitmap_tree::steps::{BlockSeat, Words};
 use crate::source::bitmap_tree::view::Size;
-use crate::source::kit::atomic_table::Table;
 use crate::source::cube_shape::MAX_BITMAP_DIM;
 use crate::source::kit::alloc::{AllocError, Global};
 
@@ -38,20 +38,24 @@ impl BitmapTree {
     /// - ensures dim: `IfOk result (λ made. dim_of made ≡ n)`
     /// - ensures anyone: `IfOk result (λ made. permits_of made ≡ 0)`
     pub fn open(alloc: Global, n: u32) -> Result<BitmapTree, AllocError> {
-        let (machine, _seat) = BitmapTree::open_sized(alloc, Size { dim: n, permits: 0 })?;
+        let (machine, seat) = BitmapTree::open_sized(alloc, Size { dim: n, permits: 0 })?;
+        drop(seat.leave());
         Ok(machine)
     }
 
     // Opens a machine of this size. The seat has all its permits.
-    pub(crate) fn open_sized(alloc: Global, size: Size) -> Result<(BitmapTree, Seat), AllocError> {
+    pub(crate) fn open_sized(
+        alloc: Global,
+        size: Size,
+    ) -> Result<(BitmapTree, BlockSeat), AllocError> {
         let mut words = vec![in alloc; u64::MAX; words_of(size.dim) as usize]?;
         words[0] = 0;
         let marks = marks_of(alloc, size.dim)?;
         let spares = Spares::open(alloc)?;
-        let (table, seat) = Table::of_words(alloc, &words, &size)?;
+        let (bits, seat) = Words::open(alloc, &words, &size)?;
         Ok((
             BitmapTree {
-                table,
+                bits,
                 size,
                 marks,
                 spares,

@@ -4,7 +4,8 @@
 
 use crate::source::kit::prelude::{Vec};
 
-use crate::source::bitmap_tree::handles::{BitmapTree, HeldBlock, Permit, Seat};
+use crate::source::bitmap_tree::handles::{BitmapTree, HeldBlock, Permit};
+use crate::source::bitmap_tree::steps::BlockSeat;
 use crate::source::bitmap_tree::view::Size;
 use crate::source::cube_shape::MAX_BITMAP_DIM;
 use crate::source::kit::alloc::{AllocError, Global};
@@ -24,8 +25,8 @@ impl BitmapTree {
     /// - ensures dimension: `IfOk result (λ held. (held_region held).dim ≡ k)`
     /// - ensures back: `IfErr result (λ refused. IsPermitOf self.now refused.0)`
     /// - ensures claimed: `IfOk result (λ held. WasClaimed (run_of (dim_of self.now) (held_region held)) (held_trail held))`
-    /// - ensures refused: `IfErr result (λ refused. refused.1 ≡ 0 → WasRefused (dim_of self.now) k (permit_trail refused.0))`
-    /// - ensures disturbed: `IfErr result (λ refused. refused.1 ≢ 0 → WasDisturbed (permit_trail refused.0))`
+    /// - ensures refused: `IfErr result (λ refused. refused.1 ≡ false → WasRefused (dim_of self.now) k (permit_trail refused.0))`
+    /// - ensures disturbed: `IfErr result (λ refused. refused.1 ≡ true → WasDisturbed (permit_trail refused.0))`
     /// - ensures alone: `IfErr result (λ refused. (words : List ℕ) → IsAlone (slice_index words) (permit_trail refused.0) → HasNoBlock (dim_of self.now) k words)`
     /// - ensures steps: `IfOk result (λ held. AreRightSteps (dim_of self.now) (held_trail held))`
     /// - ensures few: `IfOk result (λ held. length (held_trail held) ≤ take_steps (dim_of self.now))`
@@ -35,12 +36,12 @@ impl BitmapTree {
         permit: Permit,
         k: u32,
         processor: u64,
-    ) -> Result<HeldBlock, (Permit, u32)> {
+    ) -> Result<HeldBlock, (Permit, bool)> {
         let Permit { mut seat } = permit;
         self.begin(&mut seat, self.word_near(processor));
         match self.take_by(&mut seat, k, processor) {
             Ok(region) => Ok(self.hold(seat, region)),
-            Err(contended) => Err((Permit { seat }, contended)),
+            Err(contended) => Err((Permit { seat }, contended != 0)),
         }
     }
 
@@ -97,11 +98,12 @@ impl BitmapTree {
     }
 
     // Deals the permits out.
-    fn deal_all(&self, mut seat: Seat, count: u32, permits: &mut Vec<Permit>) {
+    fn deal_all(&self, mut seat: BlockSeat, count: u32, permits: &mut Vec<Permit>) {
         for _ in 0..count {
             let seat = self.deal(&mut seat);
             permits.push_reserved(Permit { seat });
         }
+        drop(seat.leave());
     }
 
     /// Ends a machine of which all permits have come back. Nothing is held, and its words are as at
@@ -120,13 +122,13 @@ impl BitmapTree {
     }
 
     // Adds a permit to a seat that has claimed nothing.
-    fn gather_one(&self, seat: &mut Seat, permit: Permit) {
+    fn gather_one(&self, seat: &mut BlockSeat, permit: Permit) {
         let Permit { seat: other } = permit;
         self.merge(seat, other);
     }
 
     // Makes one seat of all permits.
-    fn gather_all(&self, mut permits: Vec<Permit>) -> Seat {
+    fn gather_all(&self, mut permits: Vec<Permit>) -> BlockSeat {
         let mut seat = self.enter(0);
         while let Some(permit) = permits.pop() {
             self.gather_one(&mut seat, permit);

@@ -1,17 +1,19 @@
 // Made from crates/bitmap_tree/src/releases.rt by checks/lib/erase.py. Change that file.
 //! Releases of blocks, and the units that become whole by them.
 
-use crate::source::bitmap_tree::handles::{BitmapTree, HeldBlock, Released, Seat};
+use crate::source::bitmap_tree::handles::{BitmapTree, HeldBlock, Released};
 use crate::source::bitmap_tree::layout::{first_word, words_in};
 use crate::source::bitmap_tree::marks::has_half;
 use crate::source::bitmap_tree::mask::mask_of;
 use crate::source::bitmap_tree::spares::SPARES;
+use crate::source::bitmap_tree::steps::BlockSeat;
+use crate::source::bitmap_tree::takes::rest;
 use crate::source::bitmap_tree::view::Run;
 use crate::source::cube_shape::Region;
 
 impl BitmapTree {
     // Clears the bits of a block: whether its word is then empty.
-    fn clear_region(&self, seat: &mut Seat, region: Region) -> bool {
+    fn clear_region(&self, seat: &mut BlockSeat, region: Region) -> bool {
         let level = region.dim / 6;
         let place = region.base >> (6 * level);
         let word = first_word(self.size.dim / 6 - level) + (place / 64) as u32;
@@ -24,7 +26,7 @@ impl BitmapTree {
     }
 
     // Shuts a word of a level where it is empty: the unit over it, which the seat then has.
-    pub(crate) fn shut_unit(&self, seat: &mut Seat, level: u32, number: u32) -> Option<Region> {
+    pub(crate) fn shut_unit(&self, seat: &mut BlockSeat, level: u32, number: u32) -> Option<Region> {
         let word = first_word(self.size.dim / 6 - level) + number;
         let said = Run {
             base: word as u64 - 1,
@@ -42,7 +44,7 @@ impl BitmapTree {
     // Clears the bits of a block. A word that becomes empty stays open as the spare of its level,
     // and the spare before it is shut, if it is still empty. Returns the unit of that one, which
     // the seat then has.
-    fn release_once(&self, seat: &mut Seat, region: Region) -> Option<Region> {
+    fn release_once(&self, seat: &mut BlockSeat, region: Region) -> Option<Region> {
         let level = region.dim / 6;
         let empty = self.clear_region(seat, region);
         if !empty || level >= self.size.dim / 6 {
@@ -59,7 +61,7 @@ impl BitmapTree {
     }
 
     // Releases a block, and each unit that becomes whole by it.
-    pub(crate) fn release_region(&self, seat: &mut Seat, region: Region) {
+    pub(crate) fn release_region(&self, seat: &mut BlockSeat, region: Region) {
         let Some(unit) = self.release_once(seat, region) else {
             return;
         };
@@ -73,7 +75,7 @@ impl BitmapTree {
     }
 
     // Shuts the spare at a place of a level: whether it did.
-    fn shut_spare(&self, seat: &mut Seat, level: u32, place: u32) -> bool {
+    fn shut_spare(&self, seat: &mut BlockSeat, level: u32, place: u32) -> bool {
         let Some(number) = self.spares.drain(level, place) else {
             return false;
         };
@@ -91,7 +93,7 @@ impl BitmapTree {
 
     // Shuts the spares of the levels below one, the lowest first: whether it shut any.
     #[inline(never)]
-    pub(crate) fn shut_spares(&self, seat: &mut Seat, level: u32) -> bool {
+    pub(crate) fn shut_spares(&self, seat: &mut BlockSeat, level: u32) -> bool {
         let mut shut = false;
         for spare in 0..SPARES * level {
             shut |= self.shut_spare(seat, spare / SPARES, spare % SPARES);
@@ -115,6 +117,6 @@ impl BitmapTree {
             mut seat,
         } = held;
         self.release_region(&mut seat, region);
-        Released { seat }
+        Released { seat: rest(seat) }
     }
 }

@@ -78,8 +78,3 @@ impl Split<View> for CutHalf {}
 pub struct Glue;
 
 impl Join<View> for Glue {}
-
-// The permits of a seat that has claimed nothing become those of another.
-pub struct AddPermit;
-
-impl Join<View> for AddPermit {}

@@ -1,10 +1,11 @@
 // Made from crates/bitmap_tree/src/search.rt by checks/lib/erase.py. Change that file.
 //! The search of one word, of the words of a level by their marks, and of the levels above.
 
-use crate::source::bitmap_tree::handles::{BitmapTree, Seat};
+use crate::source::bitmap_tree::handles::BitmapTree;
 use crate::source::bitmap_tree::layout::{block_at, first_word, words_in};
 use crate::source::bitmap_tree::marks::{has_half, word_in};
 use crate::source::bitmap_tree::mask::{WORD_DIM, fit_in, mask_of};
+use crate::source::bitmap_tree::steps::BlockSeat;
 use crate::source::bitmap_tree::view::Run;
 use crate::source::cube_shape::Region;
 
@@ -81,7 +82,7 @@ impl BitmapTree {
     // found is clear. Returns what the exchange found.
     pub(crate) fn claim_in(
         &self,
-        seat: &mut Seat,
+        seat: &mut BlockSeat,
         word: u32,
         found: u64,
         offset: u32,
@@ -100,7 +101,7 @@ impl BitmapTree {
     #[inline(always)]
     pub(crate) fn take_in(
         &self,
-        seat: &mut Seat,
+        seat: &mut BlockSeat,
         number: u32,
         k: u32,
         tries: u32,
@@ -132,7 +133,13 @@ impl BitmapTree {
     // fewer than `TRIES` tries it ends at the first word in which it lost them. Where it takes
     // none, it says whether an exchange was lost.
     #[inline(always)]
-    fn take_marked(&self, seat: &mut Seat, k: u32, from: u32, tries: u32) -> Result<Region, bool> {
+    fn take_marked(
+        &self,
+        seat: &mut BlockSeat,
+        k: u32,
+        from: u32,
+        tries: u32,
+    ) -> Result<Region, bool> {
         let level = k / 6;
         let count = words_in(self.size.dim - 6 * level);
         let mut next = from;
@@ -159,7 +166,13 @@ impl BitmapTree {
     // processor's word, and then goes over all groups. The top level is one word. Where it takes
     // none, it says whether an exchange was lost.
     #[inline(always)]
-    fn take_here(&self, seat: &mut Seat, k: u32, processor: u64, tries: u32) -> Result<Region, bool> {
+    fn take_here(
+        &self,
+        seat: &mut BlockSeat,
+        k: u32,
+        processor: u64,
+        tries: u32,
+    ) -> Result<Region, bool> {
         if k / 6 >= self.size.dim / 6 {
             return self.take_in(seat, 0, k, tries).map_err(|lost| lost != 0);
         }
@@ -178,7 +191,7 @@ impl BitmapTree {
     }
 
     // Takes a unit of a level in its open words, if it may have one.
-    fn take_unit(&self, seat: &mut Seat, level: u32, processor: u64) -> Option<Region> {
+    fn take_unit(&self, seat: &mut BlockSeat, level: u32, processor: u64) -> Option<Region> {
         if !self.has_unit(level) {
             return None;
         }
@@ -187,7 +200,7 @@ impl BitmapTree {
 
     // Takes a unit of a level above, the lowest first, and in it the first block of dimension `k`.
     #[inline(never)]
-    fn take_above(&self, seat: &mut Seat, k: u32, processor: u64) -> Option<Region> {
+    fn take_above(&self, seat: &mut BlockSeat, k: u32, processor: u64) -> Option<Region> {
         for level in k / 6 + 1..self.size.dim / 6 + 1 {
             if let Some(unit) = self.take_unit(seat, level, processor) {
                 return Some(self.descend_first(seat, unit, k));
@@ -198,7 +211,7 @@ impl BitmapTree {
 
     // Takes the unit around a processor one level up, where it is free, and in it the first block
     // of dimension `k`.
-    fn take_own(&self, seat: &mut Seat, k: u32, processor: u64) -> Option<Region> {
+    fn take_own(&self, seat: &mut BlockSeat, k: u32, processor: u64) -> Option<Region> {
         if k / 6 >= self.size.dim / 6 {
             return None;
         }
@@ -212,7 +225,7 @@ impl BitmapTree {
     // Takes a block of dimension `k` after a lost exchange: in a unit of its own. If that is not
     // free, it goes over the words of its level again, and at last to the levels above.
     #[cold]
-    fn take_elsewhere(&self, seat: &mut Seat, k: u32, processor: u64) -> Option<Region> {
+    fn take_elsewhere(&self, seat: &mut BlockSeat, k: u32, processor: u64) -> Option<Region> {
         if let Some(region) = self.take_own(seat, k, processor) {
             return Some(region);
         }
@@ -224,7 +237,7 @@ impl BitmapTree {
 
     // Takes a block of dimension `k` by a seat with an empty run: in its level, and else in a unit
     // of a level above.
-    pub(crate) fn take_region(&self, seat: &mut Seat, k: u32, processor: u64) -> Option<Region> {
+    pub(crate) fn take_region(&self, seat: &mut BlockSeat, k: u32, processor: u64) -> Option<Region> {
         match self.take_here(seat, k, processor, 1) {
             Ok(region) => Some(region),
             Err(true) => self.take_elsewhere(seat, k, processor),

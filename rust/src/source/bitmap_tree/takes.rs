@@ -1,13 +1,27 @@
 // Made from crates/bitmap_tree/src/takes.rt by checks/lib/erase.py. Change that file.
 //! Takes: by the marks, with evidence where they refuse, and of one block that is named.
 
-use crate::source::bitmap_tree::handles::{BitmapTree, HeldBlock, Refused, Seat};
+use crate::source::bitmap_tree::handles::{BitmapTree, HeldBlock, Refused};
+use crate::source::bitmap_tree::steps::{BlankSeat, BlockSeat};
 use crate::source::cube_shape::Region;
+
+// Lets a seat with an empty run go.
+pub(crate) fn rest(seat: BlockSeat) -> BlankSeat {
+    seat.leave()
+}
+
+// Makes a refusal of a seat with an empty run, and of the number of words that it gave up.
+fn refuse(seat: BlockSeat, contended: u32) -> Refused {
+    Refused {
+        disturbed: contended != 0,
+        seat: rest(seat),
+    }
+}
 
 impl BitmapTree {
     // Takes a block by the marks, by a seat with an empty run.
     #[inline(always)]
-    fn take_quickly(&self, seat: &mut Seat, k: u32, processor: u64) -> Option<Region> {
+    fn take_quickly(&self, seat: &mut BlockSeat, k: u32, processor: u64) -> Option<Region> {
         if let Some(region) = self.take_region(seat, k, processor) {
             return Some(region);
         }
@@ -19,31 +33,32 @@ impl BitmapTree {
 
     /// Takes an aligned block of dimension `k`, by a search that begins near a processor.
     ///
-    /// It passes words with a mark by, so where it takes none, nothing is said.
+    /// It passes words with a mark by, so a refusal says only what its steps found and left.
     ///
     /// # Clauses of the proved source
     ///
     /// - requires anyone: `permits_of self.now ≡ 0`
     /// - requires fits: `k ≤ dim_of self.now`
     /// - requires processor: `processor < 2 ^ dim_of self.now`
-    /// - ensures of_machine: `IfSome result (IsHeldOf self.now)`
-    /// - ensures aligned: `IfSome result (λ held. IsAligned (dim_of self.now) (held_region held))`
-    /// - ensures dimension: `IfSome result (λ held. (held_region held).dim ≡ k)`
-    /// - ensures claimed: `IfSome result (λ held. WasClaimed (run_of (dim_of self.now) (held_region held)) (held_trail held))`
-    /// - ensures steps: `IfSome result (λ held. AreRightSteps (dim_of self.now) (held_trail held))`
-    /// - ensures few: `IfSome result (λ held. length (held_trail held) ≤ quick_steps (dim_of self.now))`
-    pub fn take_quick(&self, k: u32, processor: u64) -> Option<HeldBlock> {
+    /// - ensures of_machine: `IfOk result (IsHeldOf self.now)`
+    /// - ensures aligned: `IfOk result (λ held. IsAligned (dim_of self.now) (held_region held))`
+    /// - ensures dimension: `IfOk result (λ held. (held_region held).dim ≡ k)`
+    /// - ensures claimed: `IfOk result (λ held. WasClaimed (run_of (dim_of self.now) (held_region held)) (held_trail held))`
+    /// - ensures steps: `IfOk result (λ held. AreRightSteps (dim_of self.now) (held_trail held))`
+    /// - ensures few: `IfOk result (λ held. length (held_trail held) ≤ quick_steps (dim_of self.now))`
+    /// - ensures few_refused: `IfErr result (λ seat. length seat.me.0.trail ≤ quick_steps (dim_of self.now))`
+    pub fn take_quick(&self, k: u32, processor: u64) -> Result<HeldBlock, BlankSeat> {
         let mut seat = self.enter(self.word_near(processor));
         match self.take_quickly(&mut seat, k, processor) {
-            Some(region) => Some(self.hold(seat, region)),
-            None => None,
+            Some(region) => Ok(self.hold(seat, region)),
+            None => Err(rest(seat)),
         }
     }
 
     // Takes a block after the marks gave none. It shuts the empty words below the level of the
     // dimension. Then it looks at each word of this level and of those above.
     #[cold]
-    fn take_exactly(&self, seat: &mut Seat, k: u32) -> Result<Region, u32> {
+    fn take_exactly(&self, seat: &mut BlockSeat, k: u32) -> Result<Region, u32> {
         let whole = Region {
             base: 0,
             dim: self.size.dim,
@@ -57,7 +72,12 @@ impl BitmapTree {
 
     // Takes a block: by the marks, and else by a look at each word.
     #[inline(always)]
-    pub(crate) fn take_by(&self, seat: &mut Seat, k: u32, processor: u64) -> Result<Region, u32> {
+    pub(crate) fn take_by(
+        &self,
+        seat: &mut BlockSeat,
+        k: u32,
+        processor: u64,
+    ) -> Result<Region, u32> {
         match self.take_quickly(seat, k, processor) {
             Some(region) => Ok(region),
             None => self.take_exactly(seat, k),
@@ -66,7 +86,7 @@ impl BitmapTree {
 
     // Makes a held block of a block that a seat has taken.
     #[inline(always)]
-    pub(crate) fn hold(&self, seat: Seat, region: Region) -> HeldBlock {
+    pub(crate) fn hold(&self, seat: BlockSeat, region: Region) -> HeldBlock {
         HeldBlock {
             region,
             dim: self.size.dim,
@@ -90,8 +110,8 @@ impl BitmapTree {
     /// - ensures aligned: `IfOk result (λ held. IsAligned (dim_of self.now) (held_region held))`
     /// - ensures dimension: `IfOk result (λ held. (held_region held).dim ≡ k)`
     /// - ensures claimed: `IfOk result (λ held. WasClaimed (run_of (dim_of self.now) (held_region held)) (held_trail held))`
-    /// - ensures refused: `IfErr result (λ refused. refused.contended ≡ 0 → WasRefused (dim_of self.now) k (refused_trail refused))`
-    /// - ensures disturbed: `IfErr result (λ refused. refused.contended ≢ 0 → WasDisturbed (refused_trail refused))`
+    /// - ensures refused: `IfErr result (λ refused. refused.disturbed ≡ false → WasRefused (dim_of self.now) k (refused_trail refused))`
+    /// - ensures disturbed: `IfErr result (λ refused. refused.disturbed ≡ true → WasDisturbed (refused_trail refused))`
     /// - ensures alone: `IfErr result (λ refused. (words : List ℕ) → IsAlone (slice_index words) (refused_trail refused) → HasNoBlock (dim_of self.now) k words)`
     /// - ensures steps: `IfOk result (λ held. AreRightSteps (dim_of self.now) (held_trail held))`
     /// - ensures few: `IfOk result (λ held. length (held_trail held) ≤ take_steps (dim_of self.now))`
@@ -100,13 +120,13 @@ impl BitmapTree {
         let mut seat = self.enter(self.word_near(processor));
         match self.take_by(&mut seat, k, processor) {
             Ok(region) => Ok(self.hold(seat, region)),
-            Err(contended) => Err(Refused { contended, seat }),
+            Err(contended) => Err(refuse(seat, contended)),
         }
     }
 
     // Takes one block by a seat with an empty run: a second time once the empty words under it are
     // shut.
-    fn take_named(&self, seat: &mut Seat, block: Region) -> Result<(), u32> {
+    fn take_named(&self, seat: &mut BlockSeat, block: Region) -> Result<(), u32> {
         if let Ok(()) = self.take_path(seat, block) {
             return Ok(());
         }
@@ -131,8 +151,8 @@ impl BitmapTree {
     /// - ensures of_machine: `IfOk result (IsHeldOf self.now)`
     /// - ensures region: `IfOk result (λ held. held_region held ≡ block)`
     /// - ensures claimed: `IfOk result (λ held. WasClaimed (run_of (dim_of self.now) block) (held_trail held))`
-    /// - ensures refused: `IfErr result (λ refused. refused.contended ≡ 0 → WasBlockTaken (dim_of self.now) block (refused_trail refused))`
-    /// - ensures disturbed: `IfErr result (λ refused. refused.contended ≢ 0 → WasDisturbed (refused_trail refused))`
+    /// - ensures refused: `IfErr result (λ refused. refused.disturbed ≡ false → WasBlockTaken (dim_of self.now) block (refused_trail refused))`
+    /// - ensures disturbed: `IfErr result (λ refused. refused.disturbed ≡ true → WasDisturbed (refused_trail refused))`
     /// - ensures alone: `IfErr result (λ refused. (words : List ℕ) → IsAlone (slice_index words) (refused_trail refused) → IsInUse (dim_of self.now) words block)`
     /// - ensures steps: `IfOk result (λ held. AreRightSteps (dim_of self.now) (held_trail held))`
     /// - ensures few: `IfOk result (λ held. length (held_trail held) ≤ block_steps (dim_of self.now))`
@@ -141,7 +161,7 @@ impl BitmapTree {
         let mut seat = self.enter(self.word_near(block.base));
         match self.take_named(&mut seat, block) {
             Ok(()) => Ok(self.hold(seat, block)),
-            Err(contended) => Err(Refused { contended, seat }),
+            Err(contended) => Err(refuse(seat, contended)),
         }
     }
 }

@@ -46,7 +46,7 @@ fn state_after(side: SleeperSide, found: Found) -> State {
 ///
 /// - ensures barred: `resting_refusal (content_of worker.old) ≢ DONE → result ≡ no_find (resting_refusal (content_of worker.old)) NO_WORKER`
 /// - ensures bad_lane: `resting_refusal (content_of worker.old) ≡ DONE → On (λ old. lanes_at old ≤ from) (resting_in (content_of worker.old)) → result ≡ no_find BAD_LANE NO_WORKER`
-/// - ensures found: `resting_refusal (content_of worker.old) ≡ DONE → On (λ old. from < lanes_at old → On (HasFound result old) (resting_in (content_of worker.new))) (resting_in (content_of worker.old))`
+/// - ensures found: `resting_refusal (content_of worker.old) ≡ DONE → On (λ old. from < lanes_at old → On (HasFound from result old) (resting_in (content_of worker.new))) (resting_in (content_of worker.old))`
 /// - ensures awake: `(result.code ≡ DONE) ⊎ (result.code ≡ ENDED) → worker_refusal (content_of worker.new) ≡ DONE`
 /// - ensures asleep: `(result.code ≡ PARK) ⊎ (result.code ≡ AGAIN) → worker_refusal (content_of worker.new) ≡ ASLEEP`
 /// - ensures barred_unchanged: `resting_refusal (content_of worker.old) ≢ DONE → worker.new ≡ worker.old`

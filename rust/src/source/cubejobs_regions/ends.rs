@@ -7,7 +7,7 @@ use crate::source::cubejobs_regions::common::Common;
 use crate::source::cubejobs_regions::machine::Machine;
 use crate::source::cubejobs_regions::ownership::Ownership;
 use crate::source::cubejobs_regions::state::State;
-use crate::source::bitmap_tree::{BitmapTree, BlockSeat};
+use crate::source::bitmap_tree::{BitmapTree, BlankSeat};
 use crate::source::kit::alloc::Global;
 
 // Opens a machine of dimension `n` in a place of its own. Returns `None` if memory ran out.
@@ -82,7 +82,7 @@ pub(crate) fn share(alloc: Global, place: Box<State>) -> (Box<State>, Option<Box
 
 // Frees a machine if no block of it is held, by a take of the whole. Otherwise returns it. Also
 // returns the seat of the call.
-fn end(common: Common, start: u64) -> Result<BlockSeat, (Machine, BlockSeat)> {
+fn end(common: Common, start: u64) -> Result<BlankSeat, (Machine, BlankSeat)> {
     match common.tree.take(common.tree.dim(), start) {
         Ok(held) => Ok(common.tree.release(held).into_seat()),
         Err(refused) => {
@@ -98,7 +98,7 @@ fn end(common: Common, start: u64) -> Result<BlockSeat, (Machine, BlockSeat)> {
 
 // Frees the handle of a place. The last one frees the machine, and returns the seat of the call. It
 // returns the place too if a block is held.
-pub(crate) fn free(place: Box<State>) -> Result<Option<BlockSeat>, (Box<State>, BlockSeat)> {
+pub(crate) fn free(place: Box<State>) -> Result<Option<BlankSeat>, (Box<State>, BlankSeat)> {
     let mut place = place;
     let State::Machine(machine) = Box::replace(&mut place, State::Taken) else {
         unreachable!()

@@ -3,10 +3,8 @@
 
 use crate::source::cubejobs_regions::block_handle::BlockHandle;
 use crate::source::cubejobs_regions::codes::{DONE, HOLDS_ALREADY, OPEN, OTHER_KIND};
-use crate::source::cubejobs_regions::hidden_seat::HiddenSeat;
 use crate::source::cubejobs_regions::tag::{dim_at, holds, region_at, tag_of};
-use crate::source::kit::atomic_table::Badge;
-use crate::source::bitmap_tree::{BlockSeat, HeldBlock};
+use crate::source::bitmap_tree::{BlankSeat, HeldBlock, HiddenSeat};
 use core::mem::replace;
 
 impl BlockHandle {
@@ -24,13 +22,28 @@ impl BlockHandle {
     #[inline(always)]
     pub(crate) fn of(held: HeldBlock, machine: u64) -> BlockHandle {
         let (region, dim, seat) = held.into_parts();
-        let (seat, none) = HiddenSeat::blank().exchange(seat.into_badge());
-        drop(none);
         BlockHandle {
             tag: tag_of(region, dim),
             machine,
-            seat,
+            seat: HiddenSeat::of(seat),
         }
+    }
+
+    // Lets an empty handle go.
+    #[inline(always)]
+    fn leave(self) {
+        let BlockHandle {
+            tag: _,
+            machine: _,
+            seat,
+        } = self;
+        seat.leave();
+    }
+
+    // Puts a held block into an empty handle, of a machine of this number.
+    #[inline(always)]
+    pub(crate) fn put(&mut self, held: HeldBlock, machine: u64) {
+        replace(self, BlockHandle::of(held, machine)).leave();
     }
 
     // Returns whether it holds a block.
@@ -45,15 +58,14 @@ impl BlockHandle {
         let tag = self.tag;
         self.tag = 0;
         let seat = replace(&mut self.seat, HiddenSeat::blank());
-        let (none, badge) = seat.exchange(Badge::blank());
-        drop(none);
-        HeldBlock::of_parts(region_at(tag), dim_at(tag), badge.into_seat())
+        HeldBlock::of_parts(region_at(tag), dim_at(tag), seat.into_seat())
     }
 
     // Keeps the seat of a call in an empty handle, and so what its steps found. No bytes change.
     #[inline(always)]
-    pub(crate) fn keep(&mut self, seat: BlockSeat) {
-        self.seat.keep(seat);
+    pub(crate) fn keep(&mut self, seat: BlankSeat) {
+        let last = HiddenSeat::of(seat.into_block_seat());
+        replace(&mut self.seat, last).leave();
     }
 
     // Returns why no block can be put into it, or `DONE`.

@@ -20,8 +20,8 @@ fn compare(machine: &Machine, a: &mut BlockHandle, b: &mut BlockHandle) -> bool 
     let first = take_out(machine, a);
     let second = take_out(machine, b);
     let (first, second) = machine.tree().apart(first, second);
-    *a = BlockHandle::of(first, number);
-    *b = BlockHandle::of(second, number);
+    a.put(first, number);
+    b.put(second, number);
     true
 }
 

@@ -42,7 +42,7 @@ pub fn cubejobs_regions_open_version(machine: &mut Handle,
     match ends::machine_of(alloc, n, number) {
         None => OUT_OF_MEMORY,
         Some(place) => {
-            *machine = Handle::of(place);
+            machine.put(place);
             DONE
         }
     }
@@ -71,11 +71,11 @@ pub fn cubejobs_regions_share(thread: &mut Handle,
         return NOT_OPEN;
     };
     let (place, another) = ends::share(alloc, place);
-    *thread = Handle::of(place);
+    thread.put(place);
     match another {
         None => OUT_OF_MEMORY,
         Some(another) => {
-            *other = Handle::of(another);
+            other.put(another);
             DONE
         }
     }
@@ -107,7 +107,7 @@ pub fn cubejobs_regions_free(thread: &mut Handle) -> u32 {
             DONE
         }
         Err((place, seat)) => {
-            *thread = Handle::of(place);
+            thread.put(place);
             thread.keep(seat);
             STILL_HELD
         }

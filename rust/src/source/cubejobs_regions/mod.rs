@@ -11,7 +11,6 @@ pub(crate) mod ends;
 pub(crate) mod gives;
 pub(crate) mod halves;
 pub(crate) mod handle;
-pub(crate) mod hidden_seat;
 pub(crate) mod holding;
 pub(crate) mod law;
 pub(crate) mod machine;

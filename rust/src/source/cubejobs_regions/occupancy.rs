@@ -7,7 +7,7 @@ use crate::source::cubejobs_regions::handle::Handle;
 use crate::source::cubejobs_regions::machine::Machine;
 use crate::source::cubejobs_regions::places::machine_at;
 use crate::source::bitmap_occupancy::{FREE_PLACES, Occupancy, occupancy};
-use crate::source::bitmap_tree::BlockSeat;
+use crate::source::bitmap_tree::BlankSeat;
 
 impl OccupancyAnswer {
     // Makes the answer of a refused call.
@@ -44,7 +44,7 @@ fn answer_of(found: Occupancy) -> OccupancyAnswer {
 }
 
 // Counts what is free and held in a machine. Returns the seat of the loads too.
-fn count(machine: &Machine) -> (OccupancyAnswer, BlockSeat) {
+fn count(machine: &Machine) -> (OccupancyAnswer, BlankSeat) {
     let (found, seat) = occupancy(machine.tree());
     (answer_of(found), seat)
 }

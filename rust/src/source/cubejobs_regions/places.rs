@@ -5,12 +5,11 @@ use crate::source::kit::prelude::{Box};
 
 use crate::source::cubejobs_regions::codes::{ALREADY_OPEN, DONE, OPEN, OTHER_KIND};
 use crate::source::cubejobs_regions::handle::Handle;
-use crate::source::cubejobs_regions::hidden_seat::HiddenSeat;
 use crate::source::cubejobs_regions::machine::Machine;
 use crate::source::cubejobs_regions::opaque_ptr::OpaquePtr;
 use crate::source::cubejobs_regions::state::State;
 use crate::source::cubejobs_regions::tag::holds;
-use crate::source::bitmap_tree::BlockSeat;
+use crate::source::bitmap_tree::{BlankSeat, HiddenSeat};
 use crate::source::kit::alloc::Global;
 use core::mem::replace;
 
@@ -36,8 +35,20 @@ impl Handle {
     }
 
     // Keeps the seat of a call, and so what its steps found. No bytes change.
-    pub(crate) fn keep(&mut self, seat: BlockSeat) {
-        self.seat.keep(seat);
+    pub(crate) fn keep(&mut self, seat: BlankSeat) {
+        let last = HiddenSeat::of(seat.into_block_seat());
+        replace(&mut self.seat, last).leave();
+    }
+
+    // Makes it the handle of a machine. A machine that it had is dropped.
+    #[inline(always)]
+    pub(crate) fn put(&mut self, place: Box<State>) {
+        let Handle {
+            tag: _,
+            ptr: _,
+            seat,
+        } = replace(self, Handle::of(place));
+        seat.leave();
     }
 
     // Returns whether it is open.
@@ -57,7 +68,8 @@ impl Handle {
     // Returns the machine in its place, if the handle is open.
     #[inline(always)]
     fn into_place(self) -> Option<Box<State>> {
-        let Handle { tag, ptr, seat: _ } = self;
+        let Handle { tag, ptr, seat } = self;
+        seat.leave();
         if tag == OPEN {
             Some(ptr.into_box())
         } else {

@@ -45,7 +45,7 @@ pub fn cubejobs_regions_take(
 /// - ensures answered: `IsAnsweredBy take_steps (machine_of thread.old) region.old region.new result`
 /// - ensures dimension: `result.code ≡ DONE → result.dim ≡ k`
 /// - ensures found: `(result.code ≡ NO_ROOM) ⊎ (result.code ≡ NOT_NOW) → OnMachine (λ machine. FoundNoRoom (dim_of_machine machine) k result.contended (trail_of region.new)) (machine_of thread.old)`
-/// - ensures busy: `result.code ≡ NOT_NOW → result.contended ≢ 0`
+/// - ensures busy: `result.code ≡ NOT_NOW → result.contended ≡ 1`
 /// - ensures machine: `machine_of thread.new ≡ machine_of thread.old`
 pub fn cubejobs_regions_take_exact(
     thread: &mut Handle,
@@ -72,7 +72,7 @@ pub fn cubejobs_regions_take_exact(
 /// - ensures answered: `IsAnsweredBy block_steps (machine_of thread.old) region.old region.new result`
 /// - ensures region: `result.code ≡ DONE → region_of result ≡ region_at base k`
 /// - ensures found: `(result.code ≡ TAKEN) ⊎ (result.code ≡ NOT_NOW) → OnMachine (λ machine. FoundInUse (dim_of_machine machine) (region_at base k) result.contended (trail_of region.new)) (machine_of thread.old)`
-/// - ensures busy: `result.code ≡ NOT_NOW → result.contended ≢ 0`
+/// - ensures busy: `result.code ≡ NOT_NOW → result.contended ≡ 1`
 /// - ensures machine: `machine_of thread.new ≡ machine_of thread.old`
 pub fn cubejobs_regions_take_at(
     thread: &mut Handle,

@@ -23,17 +23,17 @@ pub(crate) fn refusal(thread: &Handle, region: &BlockHandle) -> u32 {
 #[inline(always)]
 fn fill(number: u64, region: &mut BlockHandle, held: HeldBlock) -> Answer {
     let answer = done(held.region());
-    *region = BlockHandle::of(held, number);
+    region.put(held, number);
     answer
 }
 
-// Makes the answer of a take that found nothing free: this code, unless it gave up words.
+// Makes the answer of a take that found nothing free: this code, unless it gave up a word.
 #[inline(always)]
-fn sought(code: u32, contended: u32) -> Answer {
-    if contended == 0 {
-        return refused(code, 0);
+fn sought(code: u32, disturbed: bool) -> Answer {
+    if disturbed {
+        return refused(NOT_NOW, 1);
     }
-    refused(NOT_NOW, contended)
+    refused(code, 0)
 }
 
 /// Takes a block of dimension `k` by the marks.
@@ -44,8 +44,8 @@ pub(crate) fn take(machine: &Machine, region: &mut BlockHandle, k: u32) -> Answe
         return refused(BAD_DIMENSION, 0);
     }
     match common.tree.take_quick(k, machine.start) {
-        Some(held) => fill(common.number, region, held),
-        None => refused(NOT_NOW, 0),
+        Ok(held) => fill(common.number, region, held),
+        Err(_) => refused(NOT_NOW, 0),
     }
 }
 
@@ -58,9 +58,9 @@ pub(crate) fn take_exact(machine: &Machine, region: &mut BlockHandle, k: u32) ->
     match common.tree.take(k, machine.start) {
         Ok(held) => fill(common.number, region, held),
         Err(refusal) => {
-            let contended = refusal.contended;
+            let disturbed = refusal.disturbed;
             region.keep(refusal.into_seat());
-            sought(NO_ROOM, contended)
+            sought(NO_ROOM, disturbed)
         }
     }
 }
@@ -78,9 +78,9 @@ pub(crate) fn take_at(machine: &Machine, region: &mut BlockHandle, block: Region
     match common.tree.take_at(block) {
         Ok(held) => fill(common.number, region, held),
         Err(refusal) => {
-            let contended = refusal.contended;
+            let disturbed = refusal.disturbed;
             region.keep(refusal.into_seat());
-            sought(TAKEN, contended)
+            sought(TAKEN, disturbed)
         }
     }
 }

@@ -61,6 +61,7 @@ impl Worker {
     ///
     /// - ensures id: `IfOk result (λ it. it.id ≡ self.id)`
     /// - ensures known: `IfOk result (λ it. it.known ≡ self.known)`
+    /// - ensures deeds: `IfOk result (λ it. it.deeds ≡ self.deeds)`
     /// - ensures idle: `IfOk result (λ it. it.at ≡ AtIdle)`
     /// - ensures may_sleep: `IfOk result (λ _. self.known.number < self.id.plan.sleepers)`
     /// - ensures back: `IfErr result (λ it. it ≡ self)`
@@ -83,6 +84,7 @@ impl Finder {
     ///
     /// - ensures id: `IfOk result (λ it. it.id ≡ self.id)`
     /// - ensures known: `IfOk result (λ it. it.known ≡ self.known)`
+    /// - ensures deeds: `IfOk result (λ it. it.deeds ≡ self.deeds)`
     /// - ensures idle: `IfOk result (λ _. self.at ≡ AtIdle)`
     /// - ensures back: `IfErr result (λ it. it ≡ self)`
     /// - ensures not: `IfErr result (λ _. self.at ≢ AtIdle)`

@@ -228,7 +228,9 @@ impl Lanes {
     /// - requires id: `finder.old.id ≡ self.now`
     /// - requires from: `from < self.now.plan.sizes.lanes`
     /// - ensures id: `finder.new.id ≡ self.now`
-    /// - ensures finds: `Finds self.now.plan.sizes.lanes (tries * find_steps) finder.old.known result.found finder.new.known`
+    /// - ensures given: `given_in finder.new.deeds ≡ and_given result.woken (given_in finder.old.deeds)`
+    /// - ensures calls: `has_call finder.old.deeds ≡ false → has_call finder.new.deeds ≡ false`
+    /// - ensures finds: `Finds self.now.plan.sizes.lanes from (tries * find_steps) finder.old.known result.found finder.new.known`
     /// - ensures at: `StopsAt result.found finder.new.at`
     /// - ensures woken: `IfSome result.woken (λ x. x < self.now.plan.sleepers)`
     pub fn find(&self, finder: &mut Finder, from: u32, tries: u32) -> Finding {
@@ -248,6 +250,7 @@ impl Lanes {
     ///
     /// - requires: `finder.old.id ≡ self.now`
     /// - ensures id: `finder.new.id ≡ self.now`
+    /// - ensures deeds: `finder.new.deeds ≡ after_gift result finder.old.deeds`
     /// - ensures known: `finder.new.known ≡ finder.old.known`
     /// - ensures free: `IsFree finder.old.at → IsFree finder.new.at`
     /// - ensures other: `((word : ℕ) → finder.old.at ≢ AtWaking word) → finder.new.at ≡ finder.old.at`
@@ -268,6 +271,7 @@ impl Lanes {
     ///
     /// - requires: `finder.old.id ≡ self.now`
     /// - ensures id: `finder.new.id ≡ self.now`
+    /// - ensures deeds: `finder.new.deeds ≡ finder.old.deeds`
     /// - ensures known: `finder.new.known ≡ finder.old.known`
     /// - ensures parks: `result ≡ false → finder.new.at ≡ AtParked`
     /// - ensures awake: `result ≡ true → IsAwake finder.new.at`

@@ -115,6 +115,7 @@ impl Lanes {
     /// - ensures members: `members.new.id ≡ self.now`
     /// - ensures id: `result.id ≡ self.now`
     /// - ensures fresh: `result.known ≡ fresh_lane self.now.plan.sizes.capacity members.old.dealt_lanes`
+    /// - ensures no_deeds: `result.deeds ≡ []`
     /// - ensures next: `result.next ≡ sleepers.word_count self.now.plan.sleepers`
     /// - ensures lanes: `members.new.dealt_lanes ≡ members.old.dealt_lanes + 1`
     /// - ensures workers: `members.new.dealt_workers ≡ members.old.dealt_workers`
@@ -141,6 +142,7 @@ impl Lanes {
     /// - ensures members: `members.new.id ≡ self.now`
     /// - ensures id: `IfOk result (λ worker. worker.id ≡ self.now)`
     /// - ensures fresh: `IfOk result (λ worker. worker.known ≡ fresh_worker self.now.plan members.old.dealt_workers)`
+    /// - ensures no_deeds: `IfOk result (λ worker. worker.deeds ≡ [])`
     /// - ensures workers: `IfOk result (λ _. members.new.dealt_workers ≡ members.old.dealt_workers + 1)`
     /// - ensures lanes: `members.new.dealt_lanes ≡ members.old.dealt_lanes`
     /// - ensures unchanged: `OnErr result (members.new ≡ members.old)`
@@ -185,6 +187,7 @@ impl Lanes {
     /// - ensures members: `members.new.id ≡ self.now`
     /// - ensures id: `result.id ≡ self.now`
     /// - ensures fresh: `result.known ≡ fresh_worker self.now.plan members.old.dealt_workers`
+    /// - ensures no_deeds: `result.deeds ≡ []`
     /// - ensures workers: `members.new.dealt_workers ≡ members.old.dealt_workers + 1`
     /// - ensures lanes: `members.new.dealt_lanes ≡ members.old.dealt_lanes`
     pub fn seat_worker(&self, members: &mut Members, tails: Vec<u64>) -> Worker {

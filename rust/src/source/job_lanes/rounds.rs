@@ -42,6 +42,7 @@ impl Lanes {
     /// - requires id: `worker.old.id ≡ self.now`
     /// - requires lane: `lane < self.now.plan.sizes.lanes`
     /// - ensures id: `worker.new.id ≡ self.now`
+    /// - ensures deeds: `worker.new.deeds ≡ worker.old.deeds`
     /// - ensures only: `ChangesOnly lane worker.old.known worker.new.known`
     /// - ensures looks: `Looks (take_of lane worker.old.known) result (take_of lane worker.new.known)`
     pub fn look(&self, worker: &mut Worker, lane: u32) -> Looked {
@@ -67,6 +68,7 @@ impl Lanes {
     /// - requires id: `worker.old.id ≡ self.now`
     /// - requires from: `from < self.now.plan.sizes.lanes`
     /// - ensures id: `worker.new.id ≡ self.now`
+    /// - ensures deeds: `worker.new.deeds ≡ worker.old.deeds`
     /// - ensures takes: `TakesAny self.now.plan.sizes.lanes from worker.old.known result worker.new.known`
     /// - ensures keeps: `TakeAnyKeeps self.now.plan.sizes.lanes worker.old.known worker.new.known`
     pub fn take_any(&self, worker: &mut Worker, from: u32) -> TakenAny {

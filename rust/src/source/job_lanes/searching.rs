@@ -115,6 +115,7 @@ impl Lanes {
     /// - requires phase: `sleeper.old.phase ≡ Searching`
     /// - requires lane: `lane < self.now.plan.sizes.lanes`
     /// - ensures id: `sleeper.new.id ≡ self.now`
+    /// - ensures deeds: `sleeper.new.deeds ≡ sleeper.old.deeds`
     /// - ensures phase: `sleeper.new.phase ≡ taken_phase true result`
     /// - ensures only: `ChangesOnly lane sleeper.old.known sleeper.new.known`
     /// - ensures takes: `Takes (take_of lane sleeper.old.known) result (take_of lane sleeper.new.known)`

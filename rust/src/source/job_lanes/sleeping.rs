@@ -26,6 +26,7 @@ impl Worker {
     ///
     /// - ensures id: `result.id ≡ self.id`
     /// - ensures known: `result.known ≡ self.known`
+    /// - ensures deeds: `result.deeds ≡ self.deeds`
     /// - ensures idle: `result.phase ≡ Idle`
     pub fn into_sleeper(self) -> Sleeper {
         let Worker { sleeper } = self;
@@ -67,6 +68,7 @@ impl Sleeper {
     /// - requires: `self.phase ≡ Idle`
     /// - ensures id: `result.id ≡ self.id`
     /// - ensures known: `result.known ≡ self.known`
+    /// - ensures deeds: `result.deeds ≡ self.deeds`
     pub fn into_worker(self) -> Worker {
         Worker { sleeper: self }
     }
@@ -81,6 +83,7 @@ impl Lanes {
     /// - requires may_sleep: `sleeper.old.known.number < self.now.plan.sleepers`
     /// - requires phase: `sleeper.old.phase ≡ Idle`
     /// - ensures id: `sleeper.new.id ≡ self.now`
+    /// - ensures deeds: `sleeper.new.deeds ≡ sleeper.old.deeds`
     /// - ensures known: `sleeper.new.known ≡ sleeper.old.known`
     /// - ensures searches: `result ≡ true → sleeper.new.phase ≡ Searching`
     /// - ensures other: `result ≡ false → sleeper.new.phase ≡ Idle`
@@ -102,6 +105,7 @@ impl Lanes {
     /// - requires may_sleep: `sleeper.old.known.number < self.now.plan.sleepers`
     /// - requires phase: `sleeper.old.phase ≡ Idle`
     /// - ensures id: `sleeper.new.id ≡ self.now`
+    /// - ensures deeds: `sleeper.new.deeds ≡ sleeper.old.deeds`
     /// - ensures known: `sleeper.new.known ≡ sleeper.old.known`
     /// - ensures rests: `sleeper.new.phase ≡ resting self.now.plan.sizes.lanes 0`
     pub fn rest(&self, sleeper: &mut Sleeper) {
@@ -122,6 +126,7 @@ impl Lanes {
     /// - requires may_sleep: `sleeper.old.known.number < self.now.plan.sleepers`
     /// - requires phase: `sleeper.old.phase ≡ Searching`
     /// - ensures id: `sleeper.new.id ≡ self.now`
+    /// - ensures deeds: `sleeper.new.deeds ≡ sleeper.old.deeds`
     /// - ensures known: `sleeper.new.known ≡ sleeper.old.known`
     /// - ensures rests: `sleeper.new.phase ≡ resting self.now.plan.sizes.lanes 0`
     pub fn lie_down(&self, sleeper: &mut Sleeper) {
@@ -142,6 +147,7 @@ impl Lanes {
     /// - requires may_sleep: `sleeper.old.known.number < self.now.plan.sleepers`
     /// - requires phase: `sleeper.old.phase ≡ Found`
     /// - ensures id: `sleeper.new.id ≡ self.now`
+    /// - ensures deeds: `sleeper.new.deeds ≡ sleeper.old.deeds`
     /// - ensures known: `sleeper.new.known ≡ sleeper.old.known`
     /// - ensures looks: `sleeper.new.phase ≡ looking self.now.plan.sizes.lanes 0`
     pub fn leave(&self, sleeper: &mut Sleeper) {
@@ -175,6 +181,7 @@ impl Lanes {
     /// - requires lane: `lane < self.now.plan.sizes.lanes`
     /// - requires phase: `sleeper.old.phase ≡ Resting lane`
     /// - ensures id: `sleeper.new.id ≡ self.now`
+    /// - ensures deeds: `sleeper.new.deeds ≡ sleeper.old.deeds`
     /// - ensures only: `ChangesOnly lane sleeper.old.known sleeper.new.known`
     /// - ensures empty: `result ≡ true → sleeper.new.phase ≡ resting self.now.plan.sizes.lanes (lane + 1)`
     /// - ensures job: `result ≡ false → sleeper.new.phase ≡ Returning`
@@ -193,6 +200,7 @@ impl Lanes {
     /// - requires lane: `lane < self.now.plan.sizes.lanes`
     /// - requires phase: `sleeper.old.phase ≡ Looking lane`
     /// - ensures id: `sleeper.new.id ≡ self.now`
+    /// - ensures deeds: `sleeper.new.deeds ≡ sleeper.old.deeds`
     /// - ensures only: `ChangesOnly lane sleeper.old.known sleeper.new.known`
     /// - ensures empty: `result ≡ true → sleeper.new.phase ≡ looking self.now.plan.sizes.lanes (lane + 1)`
     /// - ensures job: `result ≡ false → sleeper.new.phase ≡ waking (word_count self.now.plan.sleepers) 0`
@@ -210,6 +218,7 @@ impl Lanes {
     /// - requires may_sleep: `sleeper.old.known.number < self.now.plan.sleepers`
     /// - requires phase: `sleeper.old.phase ≡ Returning`
     /// - ensures id: `sleeper.new.id ≡ self.now`
+    /// - ensures deeds: `sleeper.new.deeds ≡ sleeper.old.deeds`
     /// - ensures known: `sleeper.new.known ≡ sleeper.old.known`
     /// - ensures searches: `result ≡ Searches → sleeper.new.phase ≡ Searching`
     /// - ensures stays: `result ≡ Stays → sleeper.new.phase ≡ Reading`
@@ -233,6 +242,8 @@ impl Lanes {
     /// - requires may_sleep: `sleeper.old.known.number < self.now.plan.sleepers`
     /// - requires phase: `sleeper.old.phase ≡ Reading`
     /// - ensures id: `sleeper.new.id ≡ self.now`
+    /// - ensures rose: `result ≡ Call → sleeper.new.deeds ≡ RoseForCall ∷ sleeper.old.deeds`
+    /// - ensures deeds: `result ≢ Call → sleeper.new.deeds ≡ sleeper.old.deeds`
     /// - ensures known: `sleeper.new.known ≡ sleeper.old.known`
     /// - ensures call: `result ≡ Call → sleeper.new.phase ≡ Idle`
     /// - ensures call_of_searcher: `result ≡ CallOfSearcher → sleeper.new.phase ≡ Found`
@@ -256,6 +267,7 @@ impl Lanes {
     /// - requires may_sleep: `sleeper.old.known.number < self.now.plan.sleepers`
     /// - requires phase: `sleeper.old.phase ≡ Parked`
     /// - ensures id: `sleeper.new.id ≡ self.now`
+    /// - ensures deeds: `sleeper.new.deeds ≡ sleeper.old.deeds`
     /// - ensures known: `sleeper.new.known ≡ sleeper.old.known`
     /// - ensures awake: `result ≡ true → sleeper.new.phase ≡ Reading`
     /// - ensures not: `result ≡ false → sleeper.new.phase ≡ Parked`
@@ -277,6 +289,7 @@ impl Lanes {
     /// - requires may_sleep: `sleeper.old.known.number < self.now.plan.sleepers`
     /// - requires phase: `sleeper.old.phase ≡ Idle`
     /// - ensures id: `sleeper.new.id ≡ self.now`
+    /// - ensures deeds: `sleeper.new.deeds ≡ TookCall ∷ sleeper.old.deeds`
     /// - ensures known: `sleeper.new.known ≡ sleeper.old.known`
     /// - ensures same: `sleeper.new.phase ≡ Idle`
     pub fn take_call(&self, sleeper: &mut Sleeper) {
@@ -297,6 +310,7 @@ impl Lanes {
     /// - requires may_sleep: `sleeper.old.known.number < self.now.plan.sleepers`
     /// - requires phase: `sleeper.old.phase ≡ Searching`
     /// - ensures id: `sleeper.new.id ≡ self.now`
+    /// - ensures deeds: `sleeper.new.deeds ≡ TookCall ∷ sleeper.old.deeds`
     /// - ensures known: `sleeper.new.known ≡ sleeper.old.known`
     /// - ensures found: `sleeper.new.phase ≡ Found`
     pub fn find_call(&self, sleeper: &mut Sleeper) {
@@ -317,6 +331,7 @@ impl Lanes {
     /// - requires id: `sleeper.old.id ≡ self.now`
     /// - requires phase: `sleeper.old.phase ≡ (waking (word_count self.now.plan.sleepers) word)`
     /// - ensures id: `sleeper.new.id ≡ self.now`
+    /// - ensures deeds: `sleeper.new.deeds ≡ sleeper.old.deeds`
     /// - ensures known: `sleeper.new.known ≡ sleeper.old.known`
     /// - ensures nobody: `result ≡ Nobody → sleeper.new.phase ≡ Idle`
     /// - ensures woken: `(x : ℕ) → result ≡ WokenWorker x → sleeper.new.phase ≡ Giving x`
@@ -349,6 +364,7 @@ impl Lanes {
     /// - requires phase: `sleeper.old.phase ≡ (Giving to)`
     /// - requires to: `to < self.now.plan.sleepers`
     /// - ensures id: `sleeper.new.id ≡ self.now`
+    /// - ensures deeds: `sleeper.new.deeds ≡ Gave to ∷ sleeper.old.deeds`
     /// - ensures known: `sleeper.new.known ≡ sleeper.old.known`
     /// - ensures idle: `sleeper.new.phase ≡ Idle`
     pub fn give(&self, sleeper: &mut Sleeper, to: u32) {
@@ -364,6 +380,7 @@ impl Lanes {
     /// - requires phase: `sleeper.old.phase ≡ Idle`
     /// - requires to: `to < self.now.plan.sleepers`
     /// - ensures id: `sleeper.new.id ≡ self.now`
+    /// - ensures deeds: `sleeper.new.deeds ≡ sleeper.old.deeds`
     /// - ensures known: `sleeper.new.known ≡ sleeper.old.known`
     /// - ensures calls: `sleeper.new.phase ≡ Calling to`
     pub fn call(&self, sleeper: &mut Sleeper, to: u32) {
@@ -380,6 +397,7 @@ impl Lanes {
     /// - requires phase: `sleeper.old.phase ≡ (Calling to)`
     /// - requires to: `to < self.now.plan.sleepers`
     /// - ensures id: `sleeper.new.id ≡ self.now`
+    /// - ensures deeds: `sleeper.new.deeds ≡ sleeper.old.deeds`
     /// - ensures known: `sleeper.new.known ≡ sleeper.old.known`
     /// - ensures sleeps: `result ≡ true → sleeper.new.phase ≡ Giving to`
     /// - ensures awake: `result ≡ false → sleeper.new.phase ≡ Idle`

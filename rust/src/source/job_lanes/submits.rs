@@ -90,6 +90,7 @@ impl Lanes {
     ///
     /// - requires: `lane.old.id ≡ self.now`
     /// - ensures id: `lane.new.id ≡ self.now`
+    /// - ensures deeds: `lane.new.deeds ≡ lane.old.deeds`
     /// - ensures known: `Submits payload dim lane.old.known result lane.new.known`
     /// - ensures keeps: `SubmitKeeps lane.old.known lane.new.known`
     /// - ensures next: `LooksNext result lane.old.next lane.new.next`
@@ -121,6 +122,7 @@ impl Lanes {
     ///
     /// - requires id: `lane.old.id ≡ self.now`
     /// - ensures id: `lane.new.id ≡ self.now`
+    /// - ensures deeds: `lane.new.deeds ≡ after_wake result lane.old.deeds`
     /// - ensures known: `lane.new.known ≡ lane.old.known`
     /// - ensures worker: `(x : ℕ) → result ≡ WokenWorker x → x < self.now.plan.sleepers`
     /// - ensures nobody: `result ≡ Nobody → lane.new.next ≡ sleepers.word_count self.now.plan.sleepers`

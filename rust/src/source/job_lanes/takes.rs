@@ -43,6 +43,7 @@ impl Lanes {
     /// - requires id: `worker.old.id ≡ self.now`
     /// - requires lane: `lane < self.now.plan.sizes.lanes`
     /// - ensures id: `worker.new.id ≡ self.now`
+    /// - ensures deeds: `worker.new.deeds ≡ worker.old.deeds`
     /// - ensures only: `ChangesOnly lane worker.old.known worker.new.known`
     /// - ensures takes: `Takes (take_of lane worker.old.known) result (take_of lane worker.new.known)`
     /// - ensures steps: `(take_of lane worker.new.known).steps ≤ (take_of lane worker.old.known).steps + call_steps`

@@ -4,7 +4,7 @@
 use crate::source::job_lanes::record::{LaneRecord, WorkerRecord};
 use crate::source::job_lanes::sizes::Plan;
 use crate::source::kit::collections::LinkedList;
-use crate::source::wake_calls::ThreadRecord;
+use crate::source::wake_calls::{ThreadRecord, WakeDeed};
 
 // Where the closer has closed each lane: the number of accepted jobs.
 #[must_use = "the proved source spends each value of this type by a call"]
@@ -21,10 +21,12 @@ pub struct View {
     pub closers: LinkedList<CloserRecord>,
 }
 
-// The same, and the threads whose steps the seat makes: workers, and other threads.
+// The same, and the threads whose steps the seat makes: workers, and other threads. It has their
+// deeds, the newest first.
 #[must_use = "the proved source spends each value of this type by a call"]
 pub struct Both {
     pub known: View,
     pub sleepers: LinkedList<ThreadRecord>,
     pub others: LinkedList<ThreadRecord>,
+    pub deeds: LinkedList<WakeDeed>,
 }

@@ -27,9 +27,9 @@ impl RegionShop {
                 post.put(Hold::Block(block, job));
                 NextOutcome::Run(job.0, job.1, region)
             }
-            Err((permit, contended)) => {
+            Err((permit, disturbed)) => {
                 post.put(Hold::Permit(permit, Some(job), self.ageing.keep(ticket)));
-                NextOutcome::NoRegion(reason_of(contended))
+                NextOutcome::NoRegion(reason_of(disturbed))
             }
         }
     }

@@ -43,12 +43,12 @@ pub(crate) fn idle(hand: Hand, permit: Permit) -> ShopWorker {
     }
 }
 
-// Why the allocator refused, by the number of words that it gave up.
-pub(crate) fn reason_of(contended: u32) -> Reason {
-    if contended == 0 {
-        Reason::NoneFree
-    } else {
+// Why the allocator refused, by whether it gave up a word.
+pub(crate) fn reason_of(disturbed: bool) -> Reason {
+    if disturbed {
         Reason::Contended
+    } else {
+        Reason::NoneFree
     }
 }
 
@@ -76,7 +76,7 @@ impl RegionShop {
                 self.ageing.count_take(seen, ticket);
                 Next::Run(RunningJob { hand, block, job })
             }
-            Err((permit, contended)) => {
+            Err((permit, disturbed)) => {
                 let kept = Some(job);
                 let worker = ShopWorker {
                     hand,
@@ -84,7 +84,7 @@ impl RegionShop {
                     kept,
                     ticket: self.ageing.keep(ticket),
                 };
-                Next::NoRegion(worker, reason_of(contended))
+                Next::NoRegion(worker, reason_of(disturbed))
             }
         }
     }

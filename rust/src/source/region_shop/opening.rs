@@ -69,6 +69,7 @@ impl RegionShop {
     /// - ensures members: `IsMembersOf (shop_of self.now) members.new`
     /// - ensures id: `result.id ≡ (shop_of self.now).lanes`
     /// - ensures fresh: `result.known ≡ fresh_lane (shop_of self.now).lanes.plan.sizes.capacity (dealt_lanes members.old)`
+    /// - ensures no_deeds: `result.deeds ≡ []`
     /// - ensures next: `result.next ≡ word_count (shop_of self.now).lanes.plan.sleepers`
     /// - ensures lanes: `dealt_lanes members.new ≡ dealt_lanes members.old + 1`
     /// - ensures workers: `dealt_workers members.new ≡ dealt_workers members.old`

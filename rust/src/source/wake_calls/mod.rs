@@ -5,12 +5,14 @@
 //! above them are the table's own affair, and so is when a lane has a job. A table whose rule is a
 //! `WakeRule` has a world of `wake_pool`, so its law holds between any two steps.
 
+pub(crate) mod deed;
 pub(crate) mod plays;
 pub(crate) mod rule;
 pub(crate) mod sleeping;
 pub(crate) mod steps;
 pub(crate) mod waking;
 
+pub use deed::WakeDeed;
 pub use rule::{ThreadRecord, WakeRule};
 pub use sleeping::{Asleep, Back, before_park, try_back};
 pub use steps::{

@@ -1,5 +1,6 @@
 // Made from crates/wake_calls/src/rule.rt by checks/lib/erase.py. Change that file.
 
+use crate::source::wake_calls::deed::WakeDeed;
 use crate::source::kit::atomic_table::TableRule;
 use crate::source::wake_pool::WakePhase;
 

@@ -18,7 +18,7 @@ pub enum Back {
 /// What a worker does that has set its bit and has no job.
 #[derive(Clone, Copy, Debug, PartialEq, Eq)]
 pub enum Asleep {
-    /// It has a call, and is idle.
+    /// It has a call, and is idle. It takes its call next.
     Call,
     /// It has a call, and was woken: it is the searcher of its word and has work.
     CallOfSearcher,
@@ -68,7 +68,7 @@ pub fn try_back<V, K, R: WakeRule<V, K>>(
 /// - requires phase: `R.threads seat.old.me.0 ≡ thread worker workers (R.lanes shared.now.key) Reading`
 /// - requires worker: `worker < workers`
 /// - ensures table: `seat.new.table_id ≡ seat.old.table_id`
-/// - ensures call: `result ≡ Call → seat.new.me ≡ moved R.goes Idle seat.old.me`
+/// - ensures call: `result ≡ Call → seat.new.me ≡ noting R.noted RoseForCall (moved R.goes Idle seat.old.me)`
 /// - ensures call_of_searcher: `result ≡ CallOfSearcher → seat.new.me ≡ moved R.goes Found seat.old.me`
 /// - ensures woken: `result ≡ Woken → seat.new.me ≡ moved R.goes Searching seat.old.me`
 /// - ensures park: `result ≡ Park → seat.new.me ≡ moved R.goes Parked seat.old.me`

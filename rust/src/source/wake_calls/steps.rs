@@ -169,7 +169,7 @@ pub fn wake<V, K, R: WakeRule<V, K>>(
 /// - requires phase: `IsIn (R.threads seat.old.me.0) workers (R.lanes shared.now.key) (Giving to)`
 /// - requires to: `to < workers`
 /// - ensures table: `seat.new.table_id ≡ seat.old.table_id`
-/// - ensures idle: `seat.new.me ≡ moved R.goes Idle seat.old.me`
+/// - ensures idle: `seat.new.me ≡ noting R.noted (Gave to) (moved R.goes Idle seat.old.me)`
 pub fn give<V, K, R: WakeRule<V, K>>(
     shared: &Shared<(), V, K, R>,
     workers: u32,
@@ -256,8 +256,8 @@ pub fn read_mail<V, K, R: WakeRule<V, K>>(
     shared.load::<Reads<K, R>>(seat, mail_at(workers, worker) as usize) == 1
 }
 
-/// Takes back the bit of a worker that has a call. Returns whether it was set. If not, the worker
-/// is the searcher of its word.
+/// Takes back the bit of a worker that has a call. Returns whether it was set. The worker takes its
+/// call next then (`take_call`). If not, it is the searcher of its word.
 ///
 /// # Clauses of the proved source
 ///
@@ -266,7 +266,7 @@ pub fn read_mail<V, K, R: WakeRule<V, K>>(
 /// - requires phase: `R.threads seat.old.me.0 ≡ thread worker workers (R.lanes shared.now.key) Called`
 /// - requires worker: `worker < workers`
 /// - ensures table: `seat.new.table_id ≡ seat.old.table_id`
-/// - ensures idle: `result ≡ true → seat.new.me ≡ moved R.goes Idle seat.old.me`
+/// - ensures idle: `result ≡ true → seat.new.me ≡ noting R.noted RoseForCall (moved R.goes Idle seat.old.me)`
 /// - ensures found: `result ≡ false → seat.new.me ≡ moved R.goes Found seat.old.me`
 pub fn rise<V, K, R: WakeRule<V, K>>(
     shared: &Shared<(), V, K, R>,
@@ -373,7 +373,7 @@ pub fn ring<V, K, R: WakeRule<V, K>>(
 /// - requires phase: `R.threads seat.old.me.0 ≡ thread worker workers (R.lanes shared.now.key) Idle`
 /// - requires worker: `worker < workers`
 /// - ensures table: `seat.new.table_id ≡ seat.old.table_id`
-/// - ensures same: `seat.new.me ≡ seat.old.me`
+/// - ensures took: `seat.new.me ≡ noting R.noted TookCall seat.old.me`
 pub fn take_call<V, K, R: WakeRule<V, K>>(
     shared: &Shared<(), V, K, R>,
     workers: u32,
@@ -392,7 +392,7 @@ pub fn take_call<V, K, R: WakeRule<V, K>>(
 /// - requires phase: `R.threads seat.old.me.0 ≡ thread worker workers (R.lanes shared.now.key) Searching`
 /// - requires worker: `worker < workers`
 /// - ensures table: `seat.new.table_id ≡ seat.old.table_id`
-/// - ensures found: `seat.new.me ≡ moved R.goes Found seat.old.me`
+/// - ensures found: `seat.new.me ≡ noting R.noted TookCall (moved R.goes Found seat.old.me)`
 pub fn find_call<V, K, R: WakeRule<V, K>>(
     shared: &Shared<(), V, K, R>,
     workers: u32,

@@ -11,7 +11,7 @@ pub store-requires : goal.store-requires
 store-requires g c = (
   c.requires.table,
   omega (arith, c.requires.words, c.requires.to, c.mail_at.ensures.place),
-  call_step g.R.WakeRule.threads g.R.WakeRule.goes g.R.TableRule.holds g.R.WakeRule.workers g.R.WakeRule.lanes g.met.R.WakeRule.pool_law c.args.shared.now.key c.args.shared.now.table_id.slots c.args.seat.now.id c.args.seat.now.me (number_of (g.R.WakeRule.threads c.args.seat.now.me.0)) c.args.workers (g.R.WakeRule.lanes c.args.shared.now.key) c.mail_at.result c.args.to c.mail_at.ensures.place c.requires.phase c.requires.to,
+  call_step g.R.WakeRule.threads g.R.WakeRule.goes g.R.WakeRule.noted g.R.TableRule.holds g.R.WakeRule.workers g.R.WakeRule.lanes g.met.R.WakeRule.pool_law c.args.shared.now.key c.args.shared.now.table_id.slots c.args.seat.now.id c.args.seat.now.me (number_of (g.R.WakeRule.threads c.args.seat.now.me.0)) c.args.workers (g.R.WakeRule.lanes c.args.shared.now.key) c.mail_at.result c.args.to c.mail_at.ensures.place c.requires.phase c.requires.to,
 )
 
 pub returns-clause-calls : goal.returns-clause-calls

@@ -6,5 +6,5 @@ pub store-requires : goal.store-requires
 store-requires g c = (
   c.requires.table,
   omega (arith, c.requires.words, c.requires.worker, c.mail_at.ensures.place),
-  find_call_step g.R.WakeRule.threads g.R.WakeRule.goes g.R.TableRule.holds g.R.WakeRule.workers g.R.WakeRule.lanes g.met.R.WakeRule.pool_law c.args.shared.now.key c.args.shared.now.table_id.slots c.args.seat.now.id c.args.seat.now.me c.args.worker c.args.workers (g.R.WakeRule.lanes c.args.shared.now.key) c.mail_at.result c.mail_at.ensures.place c.requires.phase c.requires.worker,
+  find_call_step g.R.WakeRule.threads g.R.WakeRule.goes g.R.WakeRule.noted g.R.TableRule.holds g.R.WakeRule.workers g.R.WakeRule.lanes g.met.R.WakeRule.pool_law c.args.shared.now.key c.args.shared.now.table_id.slots c.args.seat.now.id c.args.seat.now.me c.args.worker c.args.workers (g.R.WakeRule.lanes c.args.shared.now.key) c.mail_at.result c.mail_at.ensures.place c.requires.phase c.requires.worker,
 )

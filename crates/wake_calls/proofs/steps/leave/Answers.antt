@@ -6,5 +6,5 @@ pub fetch_and-requires : goal.fetch_and-requires
 fetch_and-requires g c = (
   c.requires.table,
   omega (arith, c.requires.words, c.requires.worker, c.word_of.ensures.word),
-  leave_step g.R.WakeRule.threads g.R.WakeRule.goes g.R.TableRule.holds g.R.WakeRule.workers g.R.WakeRule.lanes g.met.R.WakeRule.pool_law c.args.shared.now.key c.args.shared.now.table_id.slots c.args.seat.now.id c.args.seat.now.me c.args.worker c.args.workers (g.R.WakeRule.lanes c.args.shared.now.key) c.word_of.result c.word_of.ensures.word c.requires.phase c.requires.worker,
+  leave_step g.R.WakeRule.threads g.R.WakeRule.goes g.R.WakeRule.noted g.R.TableRule.holds g.R.WakeRule.workers g.R.WakeRule.lanes g.met.R.WakeRule.pool_law c.args.shared.now.key c.args.shared.now.table_id.slots c.args.seat.now.id c.args.seat.now.me c.args.worker c.args.workers (g.R.WakeRule.lanes c.args.shared.now.key) c.word_of.result c.word_of.ensures.word c.requires.phase c.requires.worker,
 )

@@ -6,5 +6,5 @@ pub fetch_xor-requires : goal.fetch_xor-requires
 fetch_xor-requires g c = (
   c.requires.table,
   omega (arith, c.requires.words, c.requires.worker, c.word_of.ensures.word),
-  lie_down_step g.R.WakeRule.threads g.R.WakeRule.goes g.R.TableRule.holds g.R.WakeRule.workers g.R.WakeRule.lanes g.met.R.WakeRule.pool_law c.args.shared.now.key c.args.shared.now.table_id.slots c.args.seat.now.id c.args.seat.now.me c.args.worker c.args.workers (g.R.WakeRule.lanes c.args.shared.now.key) c.word_of.result c.bit_of.result c.bit_of.ensures.bit c.word_of.ensures.word c.requires.phase c.requires.worker,
+  lie_down_step g.R.WakeRule.threads g.R.WakeRule.goes g.R.WakeRule.noted g.R.TableRule.holds g.R.WakeRule.workers g.R.WakeRule.lanes g.met.R.WakeRule.pool_law c.args.shared.now.key c.args.shared.now.table_id.slots c.args.seat.now.id c.args.seat.now.me c.args.worker c.args.workers (g.R.WakeRule.lanes c.args.shared.now.key) c.word_of.result c.bit_of.result c.bit_of.ensures.bit c.word_of.ensures.word c.requires.phase c.requires.worker,
 )

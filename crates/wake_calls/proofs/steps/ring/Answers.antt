@@ -7,5 +7,5 @@ pub load-found-requires : goal.load-found-requires
 load-found-requires g c = (
   c.requires.table,
   omega (arith, c.requires.words, c.requires.to, c.word_of.ensures.word),
-  ring_step g.R.WakeRule.threads g.R.WakeRule.goes g.R.TableRule.holds g.R.WakeRule.workers g.R.WakeRule.lanes g.met.R.WakeRule.pool_law c.args.shared.now.key c.args.shared.now.table_id.slots c.args.seat.now.id c.args.seat.now.me (number_of (g.R.WakeRule.threads c.args.seat.now.me.0)) c.args.workers (g.R.WakeRule.lanes c.args.shared.now.key) c.word_of.result c.args.to c.word_of.ensures.word c.requires.phase c.requires.to,
+  ring_step g.R.WakeRule.threads g.R.WakeRule.goes g.R.WakeRule.noted g.R.TableRule.holds g.R.WakeRule.workers g.R.WakeRule.lanes g.met.R.WakeRule.pool_law c.args.shared.now.key c.args.shared.now.table_id.slots c.args.seat.now.id c.args.seat.now.me (number_of (g.R.WakeRule.threads c.args.seat.now.me.0)) c.args.workers (g.R.WakeRule.lanes c.args.shared.now.key) c.word_of.result c.args.to c.word_of.ensures.word c.requires.phase c.requires.to,
 )

@@ -9,5 +9,5 @@ pub compare_exchange-found-requires : goal.compare_exchange-found-requires
 compare_exchange-found-requires g c = (
   c.requires.table,
   omega (arith, c.requires.words, c.requires.sleeper, c.word_of-word.ensures.word),
-  wake_step g.R.WakeRule.threads g.R.WakeRule.goes g.R.TableRule.holds g.R.WakeRule.workers g.R.WakeRule.lanes g.met.R.WakeRule.pool_law c.args.shared.now.key c.args.shared.now.table_id.slots c.args.seat.now.id c.args.seat.now.me (number_of (g.R.WakeRule.threads c.args.seat.now.me.0)) c.args.workers (g.R.WakeRule.lanes c.args.shared.now.key) c.word_of-word.result c.bit_of-bit.result c.args.seen c.args.sleeper c.bit_of-bit.ensures.bit c.word_of-word.ensures.word c.requires.phase c.requires.sleeper (λ on. omega (arith, on, bit_at_above c.args.seen WORD_WORKERS WORD_WORKERS c.requires.free (omega arith))) c.requires.sleeps,
+  wake_step g.R.WakeRule.threads g.R.WakeRule.goes g.R.WakeRule.noted g.R.TableRule.holds g.R.WakeRule.workers g.R.WakeRule.lanes g.met.R.WakeRule.pool_law c.args.shared.now.key c.args.shared.now.table_id.slots c.args.seat.now.id c.args.seat.now.me (number_of (g.R.WakeRule.threads c.args.seat.now.me.0)) c.args.workers (g.R.WakeRule.lanes c.args.shared.now.key) c.word_of-word.result c.bit_of-bit.result c.args.seen c.args.sleeper c.bit_of-bit.ensures.bit c.word_of-word.ensures.word c.requires.phase c.requires.sleeper (λ on. omega (arith, on, bit_at_above c.args.seen WORD_WORKERS WORD_WORKERS c.requires.free (omega arith))) c.requires.sleeps,
 )

@@ -1,23 +1,10 @@
-use Rattle.std.proofs.Common.{subst, sym, ◌∙◌, arith, ap}
-use Rattle.bitmap_tree.specs.Ends.{IsLeft}
-use Rattle.bitmap_tree.specs.declared.view.Size.{Size}
-use Rattle.bitmap_tree.specs.Rule.{word_count}
-use Rattle.bitmap_tree.specs.InnerRule.{times_in}
+use Rattle.std.proofs.Common.{arith}
 use Rattle.ghost_history.specs.Sums.{total}
-use Rattle.bitmap_tree.proofs.CloseLemmas.{copied_more, left_copy}
+use Rattle.ghost_history.proofs.SumLemmas.{term_le}
+use Rattle.bitmap_tree.specs.InnerRule.{times_in}
 use Rattle.bitmap_tree.proofs.handles.BitmapTree.close.Goals as goal
-
-pub loop-word-preserved : goal.loop-word-preserved
-loop-word-preserved c = record {
-  len = c.loop-word.invariant.len;
-  copied = copied_more c.loop-word.room.items _ c.loop-word.word _ (omega (arith, c.loop-word.room.ok.0)) c.word.ensures c.loop-word.invariant.copied;
-}
 
 pub returns : goal.returns
 returns c =
-    let final = c.close-closed.ensures.values.2 in
-    let left = subst (λ (k : Size). IsLeft k.dim (λ q. total (times_in q) final.0.views) c.loop-word.room.items) c.args.self.keyed
-    (left_copy c.args.self.table.shared.key.dim c.loop-word.room.items _ final.0 final.1.0 final.2
-    (sym c.loop-word.room.ok.0 ∙ c.loop-word.invariant.len ∙ c.args.self.has_room ∙ ap (λ (k : Size). word_count k.dim) (sym c.args.self.keyed))
-    (λ k within. c.loop-word.invariant.copied k (omega (arith, within, c.loop-word-test.false, c.loop-word.room.ok.0, c.len-word-end.ensures, c.loop-word.invariant.len)))) in
-    ((λ q. total (times_in q) final.0.views), c.shut_all.ensures (λ q. total (times_in q) final.0.views) left)
+    let last = c.close_by.ensures in
+    ((λ q. total (times_in q) last.0.views), last.2, λ q. omega (arith, term_le (times_in q) last.0.views last.1.1.0 c.gather_blocks-seat.result.me.0 last.1.1.1, c.gather_blocks-seat.ensures.runs q))

@@ -20,7 +20,7 @@ returns-then-not-may_lie_down-clause-finds c =
     let old = c.args.sleeper.now.known in
     let mid = c.take_round.new.sleeper.known in
     let new = c.may_lie_down.new.sleeper.known in
-    finds_none lanes find_steps old c.again.result.found new c.again.ensures.none
+    finds_none lanes c.args.from find_steps old c.again.result.found new c.again.ensures.none
     (none_then lanes call_steps look_steps find_steps old mid new
     (round_none lanes c.args.from old mid c.take_round.ensures.keeps c.in-NoJob.ensures.takes) c.may_lie_down.ensures.none (omega arith))
 

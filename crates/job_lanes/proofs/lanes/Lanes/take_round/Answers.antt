@@ -20,6 +20,7 @@ loop-turn-preserved c =
       subst (λ (n : ℕ). IsAt lanes c.args.from n (c.loop-turn.turn + 1) c.try_lane.new.all_ended c.args.sleeper.now.known c.try_lane.new.sleeper.known) (sym next)
           (round_goes_on _ _ _ _ _ _ _ _ c.requires.from c.loop-turn.invariant.1 more c.try_lane.ensures.only c.try_lane.ensures.steps c.try_lane.new.all_ended c.in_default.ensures.none),
       c.in_default.ensures.same,
+      c.try_lane.ensures.deeds ∙ c.loop-turn.invariant.3,
     )
 
 pub returns-clause-takes : goal.returns-clause-takes

@@ -24,6 +24,10 @@ pub returns-in-Worker-clause-known : goal.returns-in-Worker-clause-known
 returns-in-Worker-clause-known c =
     ap (λ (z : BothSat). worker_in z.0.known.workers) (c.wake_check-woken.ensures.woken c.in-Worker.worker c.in-Worker.is) ∙ ap (λ (x : SleeperOf). x.known) c.sleeper.view_is
 
+pub returns-in-Worker-clause-deeds : goal.returns-in-Worker-clause-deeds
+returns-in-Worker-clause-deeds c =
+    ap (λ (z : BothSat). z.0.deeds) (c.wake_check-woken.ensures.woken c.in-Worker.worker c.in-Worker.is) ∙ ap (λ (x : SleeperOf). x.deeds) c.sleeper.view_is
+
 pub returns-in-Worker-clause-woken : goal.returns-in-Worker-clause-woken
 returns-in-Worker-clause-woken c =
     λ x told. subst (λ (y : ℕ). phase_in c.wake_check-woken.new.seat.me.0.sleepers ≡ Giving y) (same_worker c.in-Worker.worker x told)
@@ -41,6 +45,7 @@ returns-in-Again c =
     record {
       id = (λ i. record { table = c.wake_check-woken.ensures.table i; plan = c.sleeper.inside.plan }) ∙ (ap (λ (x : SleeperOf). x.id) c.sleeper.view_is ∙ c.requires.id);
       known = ap (λ (z : BothSat). worker_in z.0.known.workers) moves ∙ ap (λ (x : SleeperOf). x.known) c.sleeper.view_is;
+      deeds = ap (λ (z : BothSat). z.0.deeds) moves ∙ ap (λ (x : SleeperOf). x.deeds) c.sleeper.view_is;
       nobody = λ told. absurd (let e : ◌≡◌ {A = Wake} (Again c.in-Again.left) Nobody = told in cc);
       woken = λ x told. absurd (let e : ◌≡◌ {A = Wake} (Again c.in-Again.left) (Worker x) = told in cc);
       again = λ b told. subst (λ (y : ℕ). phase_in c.wake_check-woken.new.seat.me.0.sleepers ≡ Waking y) (same_left c.in-Again.left b told)

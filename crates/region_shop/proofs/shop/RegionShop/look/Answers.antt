@@ -18,7 +18,7 @@ invariant_of-sleeper c =
       took = subst (λ (k : Option (ℕ × LaneJob)). HasTaken served (kept_list k) new) (sym c.job_of.ensures)
           (has_taken served (kept_list (found_job found)) old new
           (subst (λ (k : Option (ℕ × LaneJob)). HasTaken served (kept_list k) old) c.requires.none c.args.sleeper.took)
-          (gained c.args.self.now.lanes.plan.sizes.lanes (c.args.tries * find_steps) old new c.requires.sleeper.long found c.find-finding.ensures.finds));
+          (gained c.args.self.now.lanes.plan.sizes.lanes c.lane_at-from.result (c.args.tries * find_steps) old new c.requires.sleeper.long found c.find-finding.ensures.finds));
     }
 
 pub returns-clause-reaches : goal.returns-clause-reaches
@@ -31,8 +31,8 @@ returns-clause-reaches c =
     record {
       job = subst (λ (k : Option (ℕ × LaneJob)). Gets c.args.tries c.args.sleeper.kept old k new) (sym c.job_of.ensures)
           (subst (λ (k : Option (ℕ × LaneJob)). Gets c.args.tries k old (found_job found) new) (sym c.requires.none) (
-            gained lanes steps old new c.requires.sleeper.long found c.find-finding.ensures.finds,
-            few lanes steps old new c.requires.sleeper.long found c.find-finding.ensures.finds,
+            gained lanes c.lane_at-from.result steps old new c.requires.sleeper.long found c.find-finding.ensures.finds,
+            few lanes c.lane_at-from.result steps old new c.requires.sleeper.long found c.find-finding.ensures.finds,
           ));
       served = refl;
     }

@@ -1,0 +1,113 @@
+"""Counts what calls do and no clause counts: every atomic access, also one that leaves no record, and the joins of a
+collective.
+
+`checks/run steps [--long]` makes 40,000 random calls of each structure in the source form (`rust/src/source`), by 1 to 8
+threads, and with `--long` 1,000,000: of the bitmap tree, of lanes of jobs, and of the tree of status words, which it
+erases itself. Each call must make at most the number of atomic accesses that the pages state (docs/REGIONS.md,
+docs/LANES.md and docs/ALGORITHM.md). The words of the sources are put under a type that counts each access of a thread.
+A collective must make exactly the joins of the rounds of its tally.
+
+It must see slips, calls that make loads more: three of SLIPS in the gate, and with `--long` all of them.
+"""
+import os
+import re
+import shutil
+import tempfile
+from typing import NamedTuple
+
+from checks.lib import erase
+from checks.lib.repository import files_below, path, read, write
+from checks.lib.rows import Row, Skipped, answer, must, run_rows
+
+CALLS, MANY, SECONDS = 40_000, 1_000_000, 1800
+PROGRAM = "checks/built/steps.rs"
+WORDS = ["--edition", "2021", "-Coverflow-checks=on", "-O", *(f'--cfg=feature="{it}"' for it in ("dispatch", "regions", "std"))]
+# The import of the words in the shim, and what stands there instead: each file of the source form that has one.
+IMPORT = "use core::sync::atomic::{AtomicU64, Ordering::SeqCst};"
+COUNTED = "use crate::counting::AtomicU64;\nuse core::sync::atomic::Ordering::SeqCst;"
+SHIMS = ("kit/atomic_table.rs", "kit/counted_slot.rs")
+# What has words of its own, and is not measured: the dispatcher over lanes.
+UNMEASURED = ["region_shop/ageing.rs"]
+
+
+class Slip(NamedTuple):
+    """A slip: its name, a file below `rust/src/source` or of the tree, a text of it, and what is put there."""
+
+    name: str
+    file: str
+    old: str
+    new: str
+
+
+# The gate tries each second one: one of each structure.
+SLIPS = (
+    Slip("a release loads a word often", "bitmap_tree/releases.rs", "        self.release_region(&mut seat, region);\n",
+         "        for _ in 0..200 { self.peek(0); }\n        self.release_region(&mut seat, region);\n"),
+    Slip("a refused take loads a word often", "bitmap_tree/takes.rs", "        if !self.shut_spares(seat, k / 6) {\n",
+         "        for _ in 0..1_000_000 { self.peek(0); }\n        if !self.shut_spares(seat, k / 6) {\n"),
+    Slip("a submit loads its word once more", "job_lanes/submits.rs", "        let cell = self.cell(count);\n",
+         "        let cell = self.cell(count);\n        self.table.shared.peek(0);\n        self.table.shared.peek(0);\n"),
+    Slip("a wake looks twice", "wake_calls/steps.rs", "    let found = shared.load::<Notices<K, R>>(seat, word as usize);\n",
+         "    shared.peek(0);\n    let found = shared.load::<Notices<K, R>>(seat, word as usize);\n"),
+    Slip("a scan makes its rounds twice", "collectives/collective.rs", "    for round in 0..k {\n        scan_round(",
+         "    for round in (0..k).chain(0..k) {\n        scan_round("),
+    Slip("a release in the tree loads once more", "tree_steps/takes.rs", "        self.zero_held(seat, node);\n",
+         "        self.table.shared.peek(0);\n        self.zero_held(seat, node);\n"),
+)
+
+
+def sources():
+    """Returns the texts of the program's sources, by their names: the source form, its words counted, and the tree."""
+    folder = path("rust/src/source")
+    texts = {os.path.relpath(it, folder): read(it) for it in files_below("rust/src/source", ".rs")}
+    has_words = sorted(name for name, text in texts.items() if re.search(r"\bsync::atomic\b|\bAtomic[UI]\d+\b", text))
+    must(has_words == sorted([*SHIMS, *UNMEASURED]), f"atomic words are in {has_words}, and are counted in {SHIMS}")
+    for name in SHIMS:
+        must(texts[name].count(IMPORT) == 1, f"{name} does not import its words by '{IMPORT}'")
+        texts[name] = texts[name].replace(IMPORT, COUNTED)
+    for crate in erase.TREE:
+        texts.update({f"{crate}/{name}.rs": text for name, text in erase.erased_tree(crate).items()})
+        texts["mod.rs"] += f"pub mod {crate};\n" if crate not in erase.CRATES else ""
+    return texts
+
+
+def ran(calls, slip=None):
+    """Builds the program, with a slip, and runs it. Returns its status, its output and its errors."""
+    if not shutil.which("rustc"):
+        raise Skipped("there is no rustc")
+    texts = sources()
+    if slip:
+        must(texts[slip.file].count(slip.old) == 1, f"the text {slip.old!r} is not there once")
+        texts[slip.file] = texts[slip.file].replace(slip.old, slip.new)
+    with tempfile.TemporaryDirectory() as folder:
+        for name in ("rust/src/place.rs", "rust/src/shared.rs", PROGRAM):
+            write(f"{folder}/{name}", read(name))
+        for name, text in texts.items():
+            write(f"{folder}/rust/src/source/{name}", text)
+        program = os.path.join(folder, "program")
+        words = ["nice", "rustc", *WORDS, "-o", program, f"{folder}/{PROGRAM}"]
+        status, _, err = answer(words, "", timeout=SECONDS, text=True)
+        must(status == 0, f"rustc refuses the program:\n{err[:3000]}")
+        return answer([program, str(calls)], "", timeout=SECONDS, text=True)
+
+
+def all_within(calls):
+    """Sees that no call makes more than its number. Shows the largest numbers."""
+    status, out, err = ran(calls)
+    must(status == 0, err[:2000])
+    print(out, end="")
+    return f"{calls:,} calls of each"
+
+
+def must_see(slip):
+    """Sees that a slip makes more than is stated."""
+    status, _, err = ran(CALLS, slip)
+    must(status != 0 and " stated" in err, f"status {status}, {err[:500]}")
+
+
+def main(words):
+    calls = MANY if "--long" in words else CALLS
+    rows = [Row("each call makes at most its number of atomic accesses", all_within, (calls,))]
+    slips = SLIPS if "--long" in words else SLIPS[::2]
+    rows += [Row(slip.name, must_see, (slip,)) for slip in slips]
+    return run_rows("steps", rows)

@@ -1,7 +1,0 @@
-use denote.Param.Send.{IsSend}
-use Rattle.atomic_table.proofs.Sent.{badge_keyless}
-use Rattle.bitmap_tree.specs.contracts.view.View.{the_row as V}
-use Rattle.cubejobs_regions.specs.contracts.hidden_seat.HiddenSeat.{the_row}
-
-pub send : IsSend the_row
-send = record { owned = λ d vs. ((λ vss. (tt, tt)), badge_keyless V.coded.code d.table_id d.id d.views); leaving = λ k f vs. tt }
