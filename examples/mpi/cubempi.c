@@ -168,7 +168,7 @@ static void end_job(int number, FILE *log) {
 static void run_jobs(int dim, int count, FILE *log) {
     static unsigned char held[1 << MAX_DIM]; // a scheduler may keep it in a file, to begin again
     struct cubejobs_fit fit = {0};
-    cubejobs_fit_open(&fit, held, sizeof held, dim);
+    must_be(!cubejobs_fit_open(&fit, held, sizeof held, dim), "the allocator does not open");
     for (int k = dim, next = 0, ended = 0; ended < count; ended++) {
         for (struct cubejobs_answer block; k >= 0; next < count ? next++ : (k--, next = 0)) {
             if (next == count || jobs[next].dim != k) continue;
