@@ -223,7 +223,7 @@ def rows_of_waits(room):
         yield Row(what, must_be_seen, (room, program, said))
     unlike(room, "cancelled", "cubejobs_wait.h", *wait_faults.CANCELLED)
     compiler = [*C, CONDITION, f"-I{room}/cancelled"]
-    program = Program(CALLS("deadline"), [REGIONS], compiler, ["-DPATIENCE=3"], ["1"])
+    program = Program(CALLS("deadline"), [REGIONS], compiler, ["-DPATIENCE=3"], ["100"])
     yield Row("a thread that ends inside a wait", must_be_seen, (room, program, wait_faults.LOST))
     for number, (what, old, new) in enumerate(wait_faults.OF_OWNERS):
         unlike(room, f"owners{number}", "cubejobs.hpp", old, new)
