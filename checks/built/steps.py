@@ -5,9 +5,10 @@ collective.
 threads, and with `--long` 1,000,000: of the bitmap tree, of lanes of jobs, and of the tree of status words, which it
 erases itself. Each call must make at most the number of atomic accesses that the pages state (docs/REGIONS.md,
 docs/LANES.md and docs/ALGORITHM.md). The words of the sources are put under a type that counts each access of a thread.
-A collective must make exactly the joins of the rounds of its tally.
+A collective must make exactly the joins of the rounds of its tally. Threads stop in the middle of a call of lanes, and
+others go on.
 
-It must see slips, calls that make loads more: three of SLIPS in the gate, and with `--long` all of them.
+It must see slips, most of them calls that make loads more: each second one of SLIPS in the gate, and with `--long` all.
 """
 import os
 import re
@@ -31,15 +32,17 @@ UNMEASURED = ["region_shop/ageing.rs"]
 
 
 class Slip(NamedTuple):
-    """A slip: its name, a file below `rust/src/source` or of the tree, a text of it, and what is put there."""
+    """A slip: its name, a file below `rust/src/source` or of the tree, a text of it, and what is put there. Then a text of
+    the error that it must cause."""
 
     name: str
     file: str
     old: str
     new: str
+    seen: str = " stated"
 
 
-# The gate tries each second one: one of each structure.
+# The gate tries each second one: one of each structure, and the last.
 SLIPS = (
     Slip("a release loads a word often", "bitmap_tree/releases.rs", "        self.release_region(&mut seat, region);\n",
          "        for _ in 0..200 { self.peek(0); }\n        self.release_region(&mut seat, region);\n"),
@@ -53,6 +56,9 @@ SLIPS = (
          "    for round in (0..k).chain(0..k) {\n        scan_round("),
     Slip("a release in the tree loads once more", "tree_steps/takes.rs", "        self.zero_held(seat, node);\n",
          "        self.table.shared.peek(0);\n        self.zero_held(seat, node);\n"),
+    Slip("a worker that has lost a job says that it took it", "job_lanes/searching.rs",
+         "compare_exchange::<Take>(&mut sleeper.seat, head, job.seq, job.seq + 1);\n        found == job.seq",
+         "compare_exchange::<Take>(&mut sleeper.seat, head, job.seq, job.seq + 1);\n        found >= job.seq", "take_idle"),
 )
 
 
@@ -100,9 +106,9 @@ def all_within(calls):
 
 
 def must_see(slip):
-    """Sees that a slip makes more than is stated."""
+    """Sees that a slip causes its error."""
     status, _, err = ran(CALLS, slip)
-    must(status != 0 and " stated" in err, f"status {status}, {err[:500]}")
+    must(status != 0 and slip.seen in err, f"status {status}, {err[:500]}")
 
 
 def main(words):

@@ -1,6 +1,7 @@
 //! Counts every atomic access of random calls: `steps CALLS` makes that many calls of each structure, by 1 to 8 threads. It
 //! ends with an error if a call makes more than its stated number, or if a collective makes other joins than those of its
-//! rounds. It prints the largest numbers.
+//! rounds. It also ends so if a thread that stops in the middle of a call of lanes holds up another one. It prints the
+//! largest numbers.
 #![allow(dead_code)]
 
 extern crate alloc;
@@ -18,7 +19,7 @@ use source::bitmap_tree::{BitmapTree, HeldBlock};
 use source::collectives::{Monoid, Tally, all_reduce, exscan, reduce, scan};
 use source::cube_shape::{Node, Region};
 use source::cube_tree::{Cube, Subcube, TreeStation};
-use source::job_lanes::{Finder, Found, Lane, Lanes, Sizes};
+use source::job_lanes::{Finder, Found, Lane, LaneJob, Lanes, Sizes, Sleeper, Submitted, Taken, TakenAny, Worker};
 use source::kit::alloc::Global;
 use std::collections::BTreeMap;
 use std::sync::Mutex;
@@ -358,8 +359,67 @@ fn collectives() {
     }
 }
 
+/// Makes all steps of a submit to lane 0 except the last, which counts the job. Returns its number.
+fn begun_submit(lanes: &Lanes, lane: &mut Lane, payload: u64) -> u64 {
+    let count = lanes.read_count(lane).unwrap();
+    assert!(lanes.has_room(lane, count));
+    let cell = lanes.cell(count);
+    lanes.put_payload(lane, count, cell, payload);
+    lanes.put_dim(lane, count, cell, 1);
+    count
+}
+
+/// Makes all steps of a take from lane 0 except the last, which takes the job. Returns the job.
+fn begun_take(lanes: &Lanes, sleeper: &mut Sleeper) -> LaneJob {
+    let seq = lanes.head_of(sleeper, 0);
+    assert!(lanes.count_of(sleeper, 0, seq).is_ok());
+    let cell = lanes.cell(seq);
+    let payload = lanes.payload_of(sleeper, 0, seq, cell);
+    LaneJob { seq, payload, dim: lanes.dim_of(sleeper, 0, seq, cell) }
+}
+
+/// A producer that stops before its last step holds up neither the other lane nor a worker, and then goes on.
+fn producer_stops(lanes: &Lanes, zero: &mut Lane, one: &mut Lane, worker: &mut Worker) {
+    let count = begun_submit(lanes, zero, 10);
+    assert_eq!(lanes.take(worker, 0), Taken::Empty);
+    assert_eq!(lanes.submit(one, 20, 1), Submitted::Accepted(0));
+    assert_eq!(lanes.take_any(worker, 0), TakenAny::AnyJob(1, LaneJob { seq: 0, payload: 20, dim: 1 }, 0));
+    assert!(count == 0 && lanes.accept(zero, count, 10, 1));
+}
+
+/// A worker that stops before its last step holds up neither the producer nor another worker, which takes the job. When it
+/// goes on, it has lost the job, and takes a later one.
+fn worker_stops(lanes: &Lanes, zero: &mut Lane, first: &mut Worker, second: &mut Worker) {
+    let job = |seq, payload| LaneJob { seq, payload, dim: 1 };
+    let begun = begun_take(lanes, &mut first.sleeper);
+    assert_eq!(begun, job(0, 10));
+    assert_eq!(lanes.take(second, 0), Taken::Job(job(0, 10), 0));
+    assert_eq!(lanes.submit(zero, 11, 1), Submitted::Accepted(1));
+    assert_eq!(lanes.submit(zero, 12, 1), Submitted::Accepted(2));
+    assert_eq!(lanes.take(second, 0), Taken::Job(job(1, 11), 1));
+    assert!(!lanes.take_idle(&mut first.sleeper, 0, begun));
+    assert_eq!(lanes.take(first, 0), Taken::Job(job(2, 12), 0));
+}
+
+/// Threads that stop in the middle of a call of lanes, while others go on.
+fn stopped() {
+    let sizes = Sizes { lanes: 2, workers: 2, capacity: 2 };
+    let (lanes, mut members) = Lanes::open(Global, sizes).ok().unwrap();
+    let [mut zero, mut one] = [(); 2].map(|()| lanes.deal_lane(&mut members));
+    let [mut first, mut second] = [(); 2].map(|()| lanes.deal_worker(Global, &mut members).ok().unwrap());
+    producer_stops(&lanes, &mut zero, &mut one, &mut first);
+    worker_stops(&lanes, &mut zero, &mut first, &mut second);
+    for lane in [zero, one] {
+        lane.abandon();
+    }
+    for worker in [first, second] {
+        worker.abandon();
+    }
+}
+
 fn main() {
     collectives();
+    stopped();
     let calls: u64 = std::env::args().nth(1).unwrap().parse().unwrap();
     let mut most = Most::default();
     for (round, threads) in [1u64, 2, 4, 8].into_iter().enumerate() {

@@ -2,9 +2,9 @@
 
 mutants/CRATE/TRIED has a sum and a day. The sum is that of the crate's sources, definitions, proofs and mutants, and of the
 definitions and public contracts of all crates below it. On that day all mutants of the crate were refused. A crate with
-another sum, or with no such file, is due. The gate tries the mutants of all crates that are due, and of others, the oldest
-day first, until those are a tenth of all mutants. If more than half of all mutants are due, it tries the oldest of these
-up to half, and says which crates stay due.
+another sum, or with no such file, is due. The gate tries the mutants of all crates that are due. Of the others it tries
+those with the oldest days, at most a tenth of all mutants. If more than half of all mutants are due, it tries the oldest of
+these, at most half, and says which crates stay due. Each time it tries one crate at least, whatever that has.
 """
 import datetime
 import hashlib
@@ -41,10 +41,10 @@ def note(crates):
 
 
 def taken(crates, counts, most):
-    """Returns the first crates that have this number of mutants."""
+    """Returns the first crates that have this number of mutants at most, or the first one."""
     found, count = [], 0
     for crate in crates:
-        if count >= most:
+        if found and count + counts[crate] > most:
             break
         found.append(crate)
         count += counts[crate]

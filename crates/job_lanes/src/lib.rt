@@ -20,8 +20,6 @@ mod sizes;
 mod sleeping;
 mod submits;
 mod takes;
-#[cfg(test)]
-mod tests;
 mod view;
 
 pub use finder::{At, Finder, Finding, Found};

@@ -20,7 +20,6 @@ pub(crate) mod sizes;
 pub(crate) mod sleeping;
 pub(crate) mod submits;
 pub(crate) mod takes;
-
 pub(crate) mod view;
 
 pub use finder::{At, Finder, Finding, Found};
