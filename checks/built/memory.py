@@ -4,9 +4,8 @@ For each input it runs the program once for each of its requests, with that one 
 two after it, and with all after it. The answer must be that of ample memory, or status 3 with OutOfMemory on standard
 error and at most the first lines of the output. A file that is named may be named there, and each file that is written
 must be whole or as it was. The room for events is asked for before a thread starts. A run in which a thread and all
-later ones cannot be started ends with that fault and no output. No run may hang. There must be a thread for each
-dispatcher. For each four processors one more feeds the lanes, and there is at most one for each lane. Where the second
-that feeds cannot start, the first must stop feeding at once.
+later ones cannot be started ends as with all of them. No run may hang. There must be a thread for each dispatcher other
+than the first, and one more that writes events.
 `checks/run memory FILE` tries FILE.
 """
 import os
@@ -16,15 +15,13 @@ import tempfile
 import tty
 
 from checks.lib.repository import read_bytes
-from checks.lib.rows import Row, Skipped, Wrong, answer, must, put, run_rows
+from checks.lib.rows import Row, Wrong, answer, must, put, run_rows
 from checks.lib.toolchain import program, shim
 
 # A run that takes longer, in seconds, hangs.
 SECONDS = 60
-FEEDERS = max(len(os.sched_getaffinity(0)) // 4, 1)
-# How many jobs each of two long lanes has. The list of LONG replies takes at least REPLY_BYTES for each of them. The
-# room for the events of a job takes at least EVENT_BYTES for each of two events.
-LONG, REPLY_BYTES, EVENT_BYTES = 10_000, 16, 24
+# How many jobs each of two long lanes has. The room for the events of a job takes at least EVENT_BYTES for each of two.
+LONG, EVENT_BYTES = 10_000, 24
 # How many requests are refused in a row: one alone; or three, and all from the first one on.
 ONE, EACH_WAY = [1], [1, 3, 0]
 # The names, among a command's words, of a file with its input and of those that it writes, which hold OLD before.
@@ -135,13 +132,11 @@ class Command:
         return [int(number) for number in read_bytes(self.path("count")).split()]
 
     def threads(self):
-        """Returns how many threads it starts: for each dispatcher, and for each open lane or four processors, if fewer.
-        One more writes the events."""
+        """Returns how many threads it starts: for each dispatcher other than the first. One more writes the events."""
         if self.words[1] not in ("run", "report"):
             return 0
         dispatchers = int(self.words[self.words.index("--dispatchers") + 1]) if "--dispatchers" in self.words else 2
-        lanes = 1 + max(int(line.split(b",")[0]) for line in self.text.splitlines()[1:])
-        return dispatchers + min(lanes, FEEDERS) + (EVENTS_FILE in self.written)
+        return dispatchers - 1 + (EVENTS_FILE in self.written)
 
 
 def refuse_each(built, shims, arguments, text, counts):
@@ -150,7 +145,7 @@ def refuse_each(built, shims, arguments, text, counts):
         wanted = command.run(0)
         status = 1 if command.words[1:3] == ["check", "run"] else 0
         must(wanted[0] == status, f"status {wanted[0]} with ample memory")
-        total, threads, _ = command.counted()
+        total, threads, *_ = command.counted()
         must(total and threads == command.threads(), f"{total} requests, {threads} threads for {command.threads()}")
         wants = 0
         for count, refused in ((count, refused) for count in counts for refused in range(1, total + 1)):
@@ -160,13 +155,10 @@ def refuse_each(built, shims, arguments, text, counts):
             wants += got != wanted
         for thread in range(1, threads + 1):
             got = command.run(0, thread=thread)
-            # Without the last thread, a run writes its events itself.
-            is_done = thread == threads and EVENTS_FILE in command.written
-            wanted_now = wanted if is_done else (3, b"", WANT, *[OLD] * len(command.written))
-            must(got == wanted_now, f"no thread from {thread} on: status {got[0]}, errors {got[2]}")
+            must(got == wanted, f"no thread from {thread} on: status {got[0]}, errors {got[2]}")
         must(wants, "no request is answered by OutOfMemory")
     ways = f"each of {total} requests refused, in {len(counts)} ways"
-    return f"{ways}, {wants} answered by OutOfMemory; so was each of {threads} threads"
+    return f"{ways}, {wants} answered by OutOfMemory; each of {threads} threads refused, with the same answer"
 
 
 def refuse_second_line(built, shims):
@@ -199,35 +191,16 @@ def refuse_second_line(built, shims):
     return f"each of {total} requests refused"
 
 
-def must_stop_feeding(built, shims):
-    """Tries two long lanes. A worker keeps its replies in a list that grows, so the bytes that a run asks for show how
-    many jobs were answered: all where nothing is refused, none where the dispatcher is, and few where the second thread
-    that feeds is. If the first thread went on, all jobs of its lane would be."""
-    if FEEDERS < 2:
-        raise Skipped("with fewer than eight processors one thread feeds, so a second one is not refused")
-    text, sizes = HEADER.encode() + LONG * b"0,allreduce,add,0,1\n1,allreduce,add,0,1\n", []
-    with tempfile.TemporaryDirectory() as folder:
-        command = Command(built, "run --dim 3 --dispatchers 1 --capacity 1", text, folder, shims)
-        for thread, status in ((0, 0), (1, 3), (3, 3)):
-            got = command.run(0, thread=thread)
-            must(got[0] == status, f"status {got[0]} with no thread from {thread} on")
-            sizes.append(command.counted()[2])
-    whole, none, few = sizes
-    must(whole - none >= 2 * LONG * REPLY_BYTES, f"{whole} bytes do not show the jobs, with {none} for none")
-    must(few - none <= LONG * REPLY_BYTES, f"the first thread goes on: {few} bytes, and {none} for none")
-    return f"{few - none} bytes for replies"
-
-
 def must_reserve_events(built, shims):
     """Sees that the room for all events is asked for before the first thread starts: it counts the bytes that a run asks
-    for if no thread can be started, with events and without."""
+    for before that, with events and without."""
     text, sizes = HEADER.encode() + LONG * b"0,allreduce,add,0,1\n1,allreduce,add,0,1\n", []
     with tempfile.TemporaryDirectory() as folder:
         for more in ("", f" --events {EVENTS_FILE}"):
             command = Command(built, f"run --dim 3{more}", text, folder, shims)
-            got = command.run(0, thread=1)
-            must(got[:3] == (3, b"", WANT) and all(held == OLD for held in got[3:]), f"status {got[0]}, errors {got[2]}")
-            sizes.append(command.counted()[2])
+            got = command.run(0)
+            must(got[0] == 0, f"status {got[0]}, errors {got[2]}")
+            sizes.append(command.counted()[3])
     room = sizes[1] - sizes[0]
     must(room >= 2 * LONG * 2 * EVENT_BYTES, f"{room} bytes are no room for the events of {2 * LONG} jobs")
     return f"{room} bytes for events"
@@ -238,7 +211,6 @@ def main(words):
     with tempfile.TemporaryDirectory() as folder:
         shims = shim("refuse.c", folder)
         rows = [Row(words, refuse_each, (built, shims, words, *how)) for words, *how in inputs()]
-        rows.append(Row("the second thread that feeds refused", must_stop_feeding, (built, shims)))
         rows.append(Row("room for events", must_reserve_events, (built, shims)))
         rows.append(Row("a second line on a terminal", refuse_second_line, (built, shims)))
         return run_rows("memory", rows, says_ok=True)

@@ -1,7 +1,7 @@
 /* Refuses requests for memory of a program: as many as REFUSE_COUNT says (1 if it is not there, and all if it is 0),
  * from the one whose number is in REFUSE on, counted from 1; and starts of threads: the one whose number is in
- * REFUSE_THREAD, and all after it. The numbers of requests and of starts, and how many bytes were asked for in all, are
- * written to the file that COUNT_FILE names, when the program ends.
+ * REFUSE_THREAD, and all after it. When the program ends, the file that COUNT_FILE names gets the numbers of requests
+ * and of starts, and how many bytes were asked for, in all and before the first start.
  *
  * Where TELL is set, a line follows each line that the program writes to standard output: '#', and how many
  * requests there were so far, how many of them were refused, and how many blocks of memory it holds.
@@ -16,7 +16,7 @@
 #include <sys/syscall.h>
 #include <unistd.h>
 
-static _Atomic unsigned long requests, refusals, held, starts, bytes_asked;
+static _Atomic unsigned long requests, refusals, held, starts, bytes_asked, bytes_before;
 static unsigned long first_refused, most_refused, first_refused_start;
 static int tells;
 
@@ -30,15 +30,15 @@ __attribute__((constructor)) static void begin(void) {
     most_refused = number_in("REFUSE_COUNT", 1);
     first_refused_start = number_in("REFUSE_THREAD", 0);
     tells = getenv("TELL") != NULL;
-    requests = refusals = held = starts = bytes_asked = 0;
+    requests = refusals = held = starts = bytes_asked = bytes_before = 0;
 }
 
 __attribute__((destructor)) static void end(void) {
-    const unsigned long total = requests, begun = starts, bytes = bytes_asked;
+    const unsigned long total = requests, begun = starts, bytes = bytes_asked, before = bytes_before;
     const char *name = getenv("COUNT_FILE");
     FILE *file = name ? fopen(name, "w") : NULL;
     if (file) {
-        fprintf(file, "%lu %lu %lu\n", total, begun, bytes);
+        fprintf(file, "%lu %lu %lu %lu\n", total, begun, bytes, before);
         fclose(file);
     }
 }
@@ -67,6 +67,7 @@ static int refuses(size_t size) {
 int pthread_create(pthread_t *thread, const pthread_attr_t *attributes, void *(*body)(void *), void *argument) {
     REAL(pthread_create);
     const unsigned long number = ++starts;
+    if (number == 1) bytes_before = bytes_asked;
     return first_refused_start && number >= first_refused_start ? EAGAIN : real(thread, attributes, body, argument);
 }
 

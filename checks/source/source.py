@@ -164,7 +164,7 @@ def is_ghost_impl(words, at):
     head, inside = words[at:start], words[start : start + 6]
     if inside[2:6] == ["drop", "(", "&", "mut"]:
         return False
-    return "for" in head and bool({"Model", "Send", "Drop"} & set(head[: head.index("for")]))
+    return "for" in head and bool({"Model", "Send", "Sync", "Drop"} & set(head[: head.index("for")]))
 
 
 def is_clause(words, at):

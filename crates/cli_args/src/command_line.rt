@@ -54,11 +54,12 @@ line for each number of a result: place is that of the item, from 0 on. The
 lines are sorted by lane, seq and place. A place that holds nothing has no line,
 so a reduction has one line, that of the root.
 
-The jobs run on threads: some put the jobs of the lanes into one queue, and the
-dispatchers take them from it and run them. The output does not depend on the
-number of dispatchers or the capacity of the queue. For large jobs, use a
-dispatcher for each core of the computer. For small jobs two are enough, and a
-larger capacity is faster.
+The dispatchers put the jobs of all lanes into one queue, take them from it, and
+run them. The first dispatcher is the thread of the program. Each other one has
+a thread of its own, and takes part only while the jobs are long. For large
+jobs, use a dispatcher for each core of the computer. With --dispatchers 1 no
+thread is started: this is the setting for small jobs. The output does not
+depend on the number of dispatchers or the capacity of the queue.
 
 If standard error is a terminal, one line of it shows the progress of a long
 run, unless --quiet is given.
@@ -78,7 +79,7 @@ and writes the file of --output or standard output.
 
 The input is a file of jobs as `cubejobs run` reads it, CSV with the header
 lane,kind,op,root,items, and is refused for the same faults;
-`cubejobs run --help` describes it. The jobs run on threads in the same way,
+`cubejobs run --help` describes it. The jobs run in the same way,
 with the same line of progress on a terminal and the same file of events. The
 output does not depend on the number of dispatchers or the capacity of the
 queue.
@@ -203,7 +204,7 @@ const TOO_MANY: &str = "  TooMany        there are more records after the header
 const SHOP_FAILURES: &str = "
 Other faults:
   Read, Write    the input or the output failed
-  OutOfMemory    a request for memory or for a thread was refused
+  OutOfMemory    a request for memory was refused
   Spent          a lane has no number left for a job
 
 Exit status:
@@ -211,8 +212,8 @@ Exit status:
   1  the input is refused, and nothing is written; standard error names the
      record and the fault
   2  bad command line
-  3  the input or output failed, a file could not be used, memory or a thread
-     was refused, or a lane has no number left
+  3  the input or output failed, a file could not be used, memory was refused,
+     or a lane has no number left
 ";
 
 // The other faults of a command that runs no jobs.

@@ -36,7 +36,7 @@ IsCommandFault read_before read_after write_before write_after fault =
     IsInputFault read_before read_after fault
     ⊎ (fault ≡ attribute what.Write write_before write_after)
 
--- Memory ran out or a thread could not be started while the jobs ran, or a lane had no number left.
+-- Memory ran out while the jobs ran, or a lane had no number left.
 abbrev pub IsShopFault : Fault → Type 0
 IsShopFault fault =
     (fault ≡ record { row = 0; what = what.OutOfMemory })

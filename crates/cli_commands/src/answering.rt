@@ -26,6 +26,8 @@ pub struct Task<'a, T> {
     pub invocation: Invocation,
     /// The runner of the jobs of `run` and `report`.
     pub runner: &'a T,
+    /// Whether the process ends after the command. Then the rows of a run are not freed.
+    pub is_last: bool,
 }
 
 /// Reads the input of a command, carries it out, and writes its rows.
@@ -38,7 +40,7 @@ pub struct Task<'a, T> {
 ///
 /// A fault of the input is the first one in it. Returns `Read` or `Write` only if that device's
 /// count of failed calls rose in this call, or was `u64::MAX` before it. Returns `Spent` if a lane
-/// has no number left. Any other failure is `OutOfMemory`, also a thread that could not be started.
+/// has no number left. Any other failure is `OutOfMemory`.
 ///
 /// After `Write` the first rows may have been written; after `OutOfMemory` too, if writing needed
 /// memory. After any other fault nothing is written.
@@ -66,28 +68,32 @@ where
     ensures untouched { IfErr result (λ fault. IsMetBeforeWriting fault → writer.new ≡ writer.old) }
     ensures shown { (terminal.new ≡ terminal.old) ⊎ ShowsProgress task.entry.invocation }
 {
-    let Task { invocation, runner } = task;
+    let Task {
+        invocation,
+        runner,
+        is_last,
+    } = task;
     match invocation {
         Invocation::Run(options) => {
             let dim = options.sizes.dim;
             let ran = answer_file::<H, RuledLine, TreeFloor, T, R, P>(
                 rt, alloc, options, runner, reader, terminal,
             );
-            write_output::<Replies, TreeFloor, W>(alloc, dim, ran, writer)
+            write_output::<Replies, TreeFloor, W>(alloc, dim, ran, writer, is_last)
         }
         Invocation::RunLong(options) => {
             let dim = options.sizes.dim;
             let ran = answer_file::<H, RuledLine, TreeFloor, T, R, P>(
                 rt, alloc, options, runner, reader, terminal,
             );
-            write_output::<Values, TreeFloor, W>(alloc, dim, ran, writer)
+            write_output::<Values, TreeFloor, W>(alloc, dim, ran, writer, is_last)
         }
         Invocation::Report(options) => {
             let dim = options.sizes.dim;
             let ran = answer_file::<H, RuledLine, TreeFloor, T, R, P>(
                 rt, alloc, options, runner, reader, terminal,
             );
-            write_output::<Report, TreeFloor, W>(alloc, dim, ran, writer)
+            write_output::<Report, TreeFloor, W>(alloc, dim, ran, writer, is_last)
         }
         Invocation::Place { n } => place_on(alloc, n, reader, writer),
         Invocation::Replay { n, stations } => replay_on(alloc, n, stations, reader, writer),

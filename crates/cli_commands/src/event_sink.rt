@@ -98,6 +98,6 @@ impl<V: Write + Device> EventSink for EventsFile<V> {
     }
 
     fn write(&mut self, events: Vec<JobEvent>) -> Result<(), Fault> {
-        jobs_csv::write_rows(self.alloc, events, &mut self.file)
+        jobs_csv::write_rows(self.alloc, &events, &mut self.file)
     }
 }

@@ -57,11 +57,11 @@ pub trait Output {
     /// `u64::MAX` before it. Otherwise memory ran out. The first lines may have been written.
     fn write<W: Write + Device>(
         alloc: Global,
-        rows: Vec<Self::Row>,
+        rows: &[Self::Row],
         writer: &mut W,
     ) -> Result<(), Fault>
         ensures written { OnOk result (Appends (W.contents writer.old) (W.contents writer.new)
-            (text rows.items)) }
+            (text rows.now)) }
         ensures failed { IfErr result (λ fault.
             fault ≡ attribute FaultKind.Write (W.failures writer.old) (W.failures writer.new)) };
 }
@@ -100,13 +100,9 @@ impl Output for Replies {
         replies_of(alloc, finished)
     }
 
-    fn write<W: Write + Device>(
-        alloc: Global,
-        rows: Vec<Reply>,
-        writer: &mut W,
-    ) -> Result<(), Fault>
+    fn write<W: Write + Device>(alloc: Global, rows: &[Reply], writer: &mut W) -> Result<(), Fault>
         ensures written { OnOk result (Appends (W.contents writer.old) (W.contents writer.new)
-            (file_text reply_columns reply_fields rows.items)) }
+            (file_text reply_columns reply_fields rows.now)) }
         ensures failed { IfErr result (λ fault.
             fault ≡ attribute FaultKind.Write (W.failures writer.old) (W.failures writer.new)) }
     {
@@ -137,13 +133,9 @@ impl Output for Values {
         replies_of(alloc, finished)
     }
 
-    fn write<W: Write + Device>(
-        alloc: Global,
-        rows: Vec<Reply>,
-        writer: &mut W,
-    ) -> Result<(), Fault>
+    fn write<W: Write + Device>(alloc: Global, rows: &[Reply], writer: &mut W) -> Result<(), Fault>
         ensures written { OnOk result (Appends (W.contents writer.old) (W.contents writer.new)
-            (values_text rows.items)) }
+            (values_text rows.now)) }
         ensures failed { IfErr result (λ fault.
             fault ≡ attribute FaultKind.Write (W.failures writer.old) (W.failures writer.new)) }
     {
@@ -176,11 +168,11 @@ impl Output for Report {
 
     fn write<W: Write + Device>(
         alloc: Global,
-        rows: Vec<ReportRow>,
+        rows: &[ReportRow],
         writer: &mut W,
     ) -> Result<(), Fault>
         ensures written { OnOk result (Appends (W.contents writer.old) (W.contents writer.new)
-            (file_text report_columns report_fields rows.items)) }
+            (file_text report_columns report_fields rows.now)) }
         ensures failed { IfErr result (λ fault.
             fault ≡ attribute FaultKind.Write (W.failures writer.old) (W.failures writer.new)) }
     {

@@ -180,6 +180,7 @@ where
     let task = Task {
         invocation,
         runner: &Plain,
+        is_last: true,
     };
     let terminal = &mut console.terminal;
     match (&request.files.input, &request.files.output) {

@@ -43,6 +43,7 @@ fn write_taken<O: Output, F: Floor, W: Write + Device>(
     n: u32,
     finished: &mut Option<Finished<F::Machine>>,
     writer: &mut W,
+    is_last: bool,
 ) -> Result<(), Fault>
 where
     F::Machine: Drop,
@@ -58,7 +59,7 @@ where
         ⊎ (fault ≡ record { row = 0; what = FaultKind.OutOfMemory })) }
 {
     match finished.take() {
-        Some(finished) => write_finished::<O, F, W>(alloc, n, finished, writer),
+        Some(finished) => write_finished::<O, F, W>(alloc, n, finished, writer, is_last),
         None => Err(Fault::no_memory()),
     }
 }
@@ -70,6 +71,7 @@ fn write_both<H: Threads, O: Output, F: Floor, W: Write + Device, K: EventSink +
     run: RecordedRun<F::Machine>,
     writer: &mut W,
     sink: &mut K,
+    is_last: bool,
 ) -> Result<(), Fault>
 where
     F::Machine: Drop,
@@ -98,7 +100,7 @@ where
             requires lanes { IfSome finished (λ run. length run.accepted.items ≤ MAX_LANES) }
             requires free { IfSome finished (λ run.
                 IsWhollyFree n (F.machine_words run.machine)) }
-        { write_taken::<O, F, W>(alloc, n, &mut finished, writer) },
+        { write_taken::<O, F, W>(alloc, n, &mut finished, writer, is_last) },
     );
     match done {
         Ok(()) => listed,
@@ -113,6 +115,7 @@ fn write_recorded<H: Threads, O: Output, F: Floor, W: Write + Device, K: EventSi
     recorded: Result<RecordedRun<F::Machine>, AnswerError<F::Machine>>,
     writer: &mut W,
     sink: &mut K,
+    is_last: bool,
 ) -> Result<(), Fault>
 where
     F::Machine: Drop,
@@ -135,7 +138,7 @@ where
         IsMetBeforeWriting fault → writer.new ≡ writer.old) }
 {
     match recorded {
-        Ok(run) => write_both::<H, O, F, W, K>(rt, n, run, writer, sink),
+        Ok(run) => write_both::<H, O, F, W, K>(rt, n, run, writer, sink, is_last),
         Err(error) => Err(error.fault),
     }
 }
@@ -184,7 +187,11 @@ where
     ensures untouched { IfErr result (λ fault. IsMetBeforeWriting fault → writer.new ≡ writer.old) }
     ensures shown { (terminal.new ≡ terminal.old) ⊎ ShowsProgress task.entry.invocation }
 {
-    let Task { invocation, runner } = task;
+    let Task {
+        invocation,
+        runner,
+        is_last,
+    } = task;
     let alloc = sink.alloc();
     match invocation {
         Invocation::Run(options) => {
@@ -192,21 +199,21 @@ where
             let recorded = record_file::<H, RuledLine, TreeFloor, T, R, P>(
                 rt, alloc, options, runner, reader, terminal,
             );
-            write_recorded::<H, Replies, TreeFloor, W, K>(rt, dim, recorded, writer, sink)
+            write_recorded::<H, Replies, TreeFloor, W, K>(rt, dim, recorded, writer, sink, is_last)
         }
         Invocation::RunLong(options) => {
             let dim = options.sizes.dim;
             let recorded = record_file::<H, RuledLine, TreeFloor, T, R, P>(
                 rt, alloc, options, runner, reader, terminal,
             );
-            write_recorded::<H, Values, TreeFloor, W, K>(rt, dim, recorded, writer, sink)
+            write_recorded::<H, Values, TreeFloor, W, K>(rt, dim, recorded, writer, sink, is_last)
         }
         Invocation::Report(options) => {
             let dim = options.sizes.dim;
             let recorded = record_file::<H, RuledLine, TreeFloor, T, R, P>(
                 rt, alloc, options, runner, reader, terminal,
             );
-            write_recorded::<H, Report, TreeFloor, W, K>(rt, dim, recorded, writer, sink)
+            write_recorded::<H, Report, TreeFloor, W, K>(rt, dim, recorded, writer, sink, is_last)
         }
         Invocation::Place { n } => write_none(place_on(alloc, n, reader, writer), sink),
         Invocation::Replay { n, stations } => {

@@ -44,7 +44,7 @@ fn quiet_options(dim: u32, dispatchers: u32, capacity: usize) -> ShopOptions
 ///
 /// A fault of the input is the first one in it. Returns `Read` or `Write` only if that device's
 /// count of failed calls rose in this call, or was `u64::MAX` before it. Returns `Spent` if a lane
-/// has no number left. Any other failure is `OutOfMemory`, also a thread that could not be started.
+/// has no number left. Any other failure is `OutOfMemory`.
 ///
 /// After `Write` the first rows may have been written; after `OutOfMemory` too, if writing needed
 /// memory. After any other fault nothing is written.
@@ -77,7 +77,11 @@ where
         IsMetBeforeWriting fault → writer.new ≡ writer.old) }
 {
     let invocation = Invocation::Run(quiet_options(n, dispatchers, capacity));
-    let task = Task { invocation, runner };
+    let task = Task {
+        invocation,
+        runner,
+        is_last: false,
+    };
     answer(rt, alloc, task, reader, writer, &mut None::<NoTerminal>)
 }
 
@@ -115,6 +119,10 @@ where
         IsMetBeforeWriting fault → writer.new ≡ writer.old) }
 {
     let invocation = Invocation::Report(quiet_options(n, dispatchers, capacity));
-    let task = Task { invocation, runner };
+    let task = Task {
+        invocation,
+        runner,
+        is_last: false,
+    };
     answer(rt, alloc, task, reader, writer, &mut None::<NoTerminal>)
 }

@@ -58,7 +58,7 @@ fn to_error<M: Drop>(stopped: RunError<M>) -> AnswerError<M>
     }
 }
 
-// Runs the jobs of these lanes. Each open lane has a producer that submits its jobs.
+// Runs the jobs of these lanes.
 pub(crate) fn answer_lanes<H, L, F, T>(
     rt: &H,
     alloc: Global,
@@ -87,9 +87,8 @@ where
     }
 }
 
-/// Reads a file of jobs and runs all of them on threads. Each open lane has a producer, which
-/// submits its jobs to the queue `L`. The workers run each job by the runner, on a block of the
-/// allocator `F`.
+/// Reads a file of jobs and runs all of them on threads. The workers submit the jobs of each open
+/// lane to the queue `L`. They run each job by the runner, on a block of the allocator `F`.
 ///
 /// All jobs are read before the first one runs. The open lanes are 0 to the largest one of a job,
 /// or lane 0 alone. Returns the finished run. It has one right reply to each job under its id, the
@@ -105,8 +104,7 @@ where
 /// The fault is the first one of the file, and then nothing ran. It is `Read` only if the reader's
 /// count of failed calls rose in this call, or was `u64::MAX` before it. Then nothing ran either.
 /// It is `Spent` if a lane has made as many entries as a lane may. It is `OutOfMemory` if memory
-/// ran out or a thread could not be started. The error has the run as far as it got, if there was
-/// one.
+/// ran out. The error has the run as far as it got, if there was one.
 pub fn answer_file<H, L, F, T, R, P>(
     rt: &H,
     alloc: Global,

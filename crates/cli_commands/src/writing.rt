@@ -20,6 +20,16 @@ use jobs_csv::{Device, Fault, FaultKind};
 use shop_threads::RunEnd;
 use std::alloc::Global;
 use std::io::Write;
+use std::mem::forget;
+
+// Frees the rows, unless the process ends after the command: to free each takes a tenth of a run.
+fn let_go<R: Drop>(rows: Vec<R>, is_last: bool) {
+    if is_last {
+        forget(rows);
+    } else {
+        drop(rows);
+    }
+}
 
 // Writes the rows that are made of a finished run.
 pub(crate) fn write_finished<O: Output, F: Floor, W: Write + Device>(
@@ -27,6 +37,7 @@ pub(crate) fn write_finished<O: Output, F: Floor, W: Write + Device>(
     n: u32,
     finished: Finished<F::Machine>,
     writer: &mut W,
+    is_last: bool,
 ) -> Result<(), Fault>
 where
     F::Machine: Drop,
@@ -44,7 +55,9 @@ where
     let Ok(rows) = O::rows::<F>(alloc, n, finished) else {
         return Err(Fault::no_memory());
     };
-    O::write(alloc, rows, writer)
+    let answer = O::write(alloc, &rows, writer);
+    let_go(rows, is_last);
+    answer
 }
 
 // Writes the rows of a finished run, or returns the fault of one that failed.
@@ -53,6 +66,7 @@ pub(crate) fn write_output<O: Output, F: Floor, W: Write + Device>(
     n: u32,
     answer: Result<RunEnd<F::Machine>, AnswerError<F::Machine>>,
     writer: &mut W,
+    is_last: bool,
 ) -> Result<(), Fault>
 where
     F::Machine: Drop,
@@ -74,5 +88,5 @@ where
         Ok(end) => end,
         Err(error) => return Err(error.fault),
     };
-    write_finished::<O, F, W>(alloc, n, finished, writer)
+    write_finished::<O, F, W>(alloc, n, finished, writer, is_last)
 }

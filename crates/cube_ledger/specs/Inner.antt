@@ -1,2 +1,2 @@
 -- Definitions that only private contracts and proofs use.
-pub mod Group
+pub mod Tables

@@ -1,17 +1,25 @@
 //! The totals of a finished dispatcher.
-ghost use Rattle.std.specs.Prelude.{◌≡◌, ℕ, ◌+◌, ◌<◌, ◌≤◌, ◌++◌, ◌^◌, [], ◌∷◌, IfOk, OnOk, cond, map};
+ghost use Rattle.std.specs.Prelude.{◌≡◌, ℕ, ◌+◌, ◌<◌, ◌≤◌, ◌++◌, ◌^◌, [], ◌∷◌, IfOk, OnOk, cond, length, map, slice_index_or, slice_set};
 ghost use Rattle.std.specs.List.{All};
 ghost use Rattle.ghost_history.specs.Sums.{below};
 ghost use Rattle.job_types.specs.Reply.{ReplyData};
 ghost use Rattle.cube_ledger.specs.Ledger.{HasAllSlips, is_any, is_of_dim, is_of_lane, processors_of, slip_of, totals_of};
-ghost use Rattle.cube_ledger.specs.Inner.Group.{HasSmallDim, is_in};
+ghost use Rattle.cube_ledger.specs.Inner.Tables.{HasFewIdle, HasRoom, HasSmallDim, and_slip};
 
 use crate::slip::Slip;
-use cube_shape::MAX_DIM;
+use cube_shape::{MAX_DIM, MAX_LANES};
 use dispatcher::Finished;
+use ghost_log::Log;
 use job_types::Reply;
 use std::alloc::{AllocError, Global};
+use std::fmt;
 use std::marker::Model;
+
+// The number of lanes that have an entry in the table of lanes.
+const LANES: usize = MAX_LANES as usize;
+
+// The number of dimensions of blocks.
+const DIMS: usize = MAX_DIM as usize + 1;
 
 /// The number of jobs, of the processors of their blocks, and of those among them that were idle.
 #[derive(Clone, Copy, Debug, PartialEq, Eq)]
@@ -24,45 +32,46 @@ pub struct Totals {
     pub idle: u128,
 }
 
-/// The slips of all replies of a finished dispatcher.
+// The totals of no slips.
+const NONE: Totals = Totals {
+    jobs: 0,
+    processors: 0,
+    idle: 0,
+};
+
+/// The slips of all replies of a finished dispatcher, summed by lane, by dimension and in all.
 ///
-/// A contract sees the list of the slips. A total allocates no memory.
-#[derive(Debug, Drop)]
+/// A contract sees the list of the slips. The ledger keeps the slips of lanes from `MAX_LANES` on,
+/// and of others their sums alone. A total allocates no memory.
+#[derive(Drop)]
 pub struct Ledger {
-    slips: Vec<Slip>,
+    lanes: [Totals; LANES],
+    dims: [Totals; DIMS],
+    total: Totals,
+    // The slips of the lanes that have no entry.
+    others: Vec<Slip>,
+    slips: Log<Slip>,
 }
 
 impl Model for Ledger {
     ghost use Rattle.std.specs.Prelude.{List};
-    ghost use Rattle.std.specs.List.{All};
     ghost use Rattle.cube_ledger.specs.declared.slip.Slip.{Slip as SlipData};
-    ghost use Rattle.cube_ledger.specs.Inner.Group.{HasSmallDim};
+    ghost use Rattle.cube_ledger.specs.Inner.Tables.{HasTables};
 
     ghost Value = { List SlipData };
 
     ghost view = { λ l. l.slips.items };
 
-    ghost invariant = { λ l. All HasSmallDim l.slips.items };
+    ghost invariant = { λ l. HasTables l.lanes l.dims l.total l.others.items l.slips.items };
 }
 
-// The slips that a total counts.
-#[derive(Clone, Copy)]
-enum Group {
-    Lane(u32),
-    Dim(u32),
-    Any,
-}
-
-impl Group {
-    // Returns whether the slip counts.
-    fn has(self, slip: &Slip) -> bool
-        ensures { result ≡ is_in self slip.now }
-    {
-        match self {
-            Group::Lane(lane) => slip.id.lane == lane,
-            Group::Dim(dim) => slip.region.dim == dim,
-            Group::Any => true,
-        }
+impl fmt::Debug for Ledger {
+    fn fmt<W: fmt::Write>(&self, f: &mut fmt::Formatter<W>) -> fmt::Result {
+        f.debug_struct("Ledger")
+            .field("lanes", &self.lanes)
+            .field("dims", &self.dims)
+            .field("total", &self.total)
+            .finish_non_exhaustive()
     }
 }
 
@@ -99,52 +108,92 @@ fn add_if(totals: Totals, slip: &Slip, counts: bool) -> Totals
     }
 }
 
-// Returns the totals of the slips of a group.
-#[tactic(auto, using(crate::proofs::TotalLemmas::total_more))]
-fn sum(slips: &[Slip], group: Group) -> Totals
-    requires { All HasSmallDim slips.now }
-    ensures { result ≡ totals_of (is_in group) slips.now }
+// Adds one slip to an entry of the table.
+fn add_at(table: &mut [Totals], at: usize, slip: &Slip)
+    requires at { at < length table.old }
+    requires room { (d : Totals) → HasRoom (slice_index_or table.old at d) }
+    requires dim { HasSmallDim slip.now }
+    ensures { (d : Totals) → table.new
+        ≡ slice_set table.old at (and_slip (slice_index_or table.old at d) slip.now) }
 {
-    let mut totals = Totals {
-        jobs: 0,
-        processors: 0,
-        idle: 0,
-    };
+    table[at] = add_if(table[at], slip, true);
+}
+
+// Returns the totals of the slips of a lane.
+#[tactic(auto, using(crate::proofs::TotalLemmas::total_more))]
+fn sum(slips: &[Slip], lane: u32) -> Totals
+    requires { All HasSmallDim slips.now }
+    ensures { result ≡ totals_of (is_of_lane lane) slips.now }
+{
+    let mut totals = NONE;
     for slip in slips {
-        totals = add_if(totals, slip, group.has(slip));
+        totals = add_if(totals, slip, slip.id.lane == lane);
     }
     totals
 }
 
-// Adds the slips of the replies.
-fn add_slips(slips: &mut Vec<Slip>, replies: &[Reply]) -> Result<(), AllocError>
-    requires { All HasSmallDim slips.old.items }
-    ensures added { OnOk result (slips.new.items ≡ slips.old.items ++ map slip_of replies.now) }
-    ensures small { All HasSmallDim slips.new.items }
-{
-    for reply in replies {
-        slips.push(Slip::of(reply))?;
-    }
-    Ok(())
-}
-
 impl Ledger {
+    // Makes the ledger of no replies.
+    fn empty(alloc: Global) -> Ledger
+        ensures { result ≡ [] }
+    {
+        Ledger {
+            lanes: [NONE; LANES],
+            dims: [NONE; DIMS],
+            total: NONE,
+            others: Vec::new(alloc),
+            slips: Log::new(),
+        }
+    }
+
+    // Adds a slip.
+    fn add(&mut self, slip: &Slip) -> Result<(), AllocError>
+        requires dim { HasSmallDim slip.now }
+        requires idle { HasFewIdle slip.now }
+        ensures { OnOk result (self.new ≡ self.old ++ slip.now ∷ []) }
+    {
+        if self.total.jobs == u64::MAX {
+            return Err(AllocError);
+        }
+        let lane = slip.id.lane as usize;
+        if lane < LANES {
+            add_at(&mut self.lanes, lane, slip);
+        } else {
+            self.others.push(*slip)?;
+        }
+        add_at(&mut self.dims, slip.region.dim as usize, slip);
+        self.total = add_if(self.total, slip, true);
+        self.slips = self.slips.and(slip);
+        Ok(())
+    }
+
+    // Adds the slips of the replies.
+    fn add_all(&mut self, replies: &[Reply]) -> Result<(), AllocError>
+        ensures { OnOk result (self.new ≡ self.old ++ map slip_of replies.now) }
+    {
+        for reply in replies {
+            self.add(&Slip::of(reply))?;
+        }
+        Ok(())
+    }
+
     /// Makes the ledger of all replies of a dispatcher: those of its workers and those of the rest.
     ///
     /// # Errors
     ///
-    /// Memory ran out for the slips.
+    /// Memory ran out. It is only taken for slips of lanes from `MAX_LANES` on, which no dispatcher
+    /// has. More than `u64::MAX` replies, which no memory holds, are refused in this way too.
     pub fn of<M>(alloc: Global, finished: &Finished<M>) -> Result<Ledger, AllocError>
         ensures { IfOk result (λ ledger. HasAllSlips
             (map (λ replies. replies.items) finished.now.by_worker.items)
             finished.now.rest.items ledger) }
     {
-        let mut slips = Vec::new(alloc);
+        let mut ledger = Ledger::empty(alloc);
         for replies in &finished.by_worker {
-            add_slips(&mut slips, replies)?;
+            ledger.add_all(replies)?;
         }
-        add_slips(&mut slips, &finished.rest)?;
-        Ok(Ledger { slips })
+        ledger.add_all(&finished.rest)?;
+        Ok(ledger)
     }
 
     /// Returns the totals of a lane. They are 0 for a lane without replies, and for a number that
@@ -152,7 +201,10 @@ impl Ledger {
     pub fn lane(&self, lane: u32) -> Totals
         ensures { result ≡ totals_of (is_of_lane lane) self.now }
     {
-        sum(&self.slips, Group::Lane(lane))
+        match self.lanes.get(lane as usize) {
+            Some(totals) => *totals,
+            None => sum(&self.others, lane),
+        }
     }
 
     /// Returns the totals of the jobs that ran on a block of this dimension. They are 0 if there
@@ -160,7 +212,10 @@ impl Ledger {
     pub fn dim(&self, dim: u32) -> Totals
         ensures { result ≡ totals_of (is_of_dim dim) self.now }
     {
-        sum(&self.slips, Group::Dim(dim))
+        match self.dims.get(dim as usize) {
+            Some(totals) => *totals,
+            None => NONE,
+        }
     }
 
     /// Returns the totals of all jobs. The totals of the lanes add up to them, and so do those of
@@ -179,6 +234,6 @@ impl Ledger {
             × (below (λ k. (totals_of (is_of_dim k) self.now).idle) (MAX_DIM + 1)
             ≡ result.idle) }
     {
-        sum(&self.slips, Group::Any)
+        self.total
     }
 }

@@ -39,12 +39,39 @@ fn make_room(replies: &mut Vec<Reply>, limit: Option<u32>) -> Option<Stop>
     None
 }
 
-// Waits for one back-off step, or until a job looks waiting.
-fn wait_for_job<R: Wait, L: JobLine>(rt: &R, line: &L, pass: &mut L::Pass, pause: &mut Pause)
+/// What a worker does where it finds the queue empty.
+pub trait Idle: Drop {
+    /// Looks for jobs elsewhere. Returns whether the worker tries the queue again at once. If not,
+    /// it waits first.
+    fn find_jobs<R: Wait>(&mut self, rt: &R) -> bool;
+}
+
+/// Finds no jobs, so the worker waits.
+#[derive(Clone, Copy, Debug, Drop)]
+pub struct Waiting;
+
+impl Idle for Waiting {
+    fn find_jobs<R: Wait>(&mut self, _rt: &R) -> bool {
+        false
+    }
+}
+
+// Looks for jobs elsewhere. If there are none, waits for one back-off step, or until a job looks
+// waiting.
+fn wait_for_job<R: Wait, L: JobLine, I: Idle>(
+    rt: &R,
+    line: &L,
+    pass: &mut L::Pass,
+    pause: &mut Pause,
+    idle: &mut I,
+)
     requires { L.is_pass (L.id line.now) pass.old }
     ensures pass { L.is_pass (L.id line.now) pass.new }
     ensures unchanged { L.pass_record pass.new ≡ L.pass_record pass.old }
 {
+    if idle.find_jobs(rt) {
+        return;
+    }
     for _ in 0..pause.next_burst(rt) {
         yield_now();
         if line.job_hint(rt, pass) {
@@ -54,18 +81,20 @@ fn wait_for_job<R: Wait, L: JobLine>(rt: &R, line: &L, pass: &mut L::Pass, pause
 }
 
 // A worker at work.
-struct Shift<L: JobLine, F: Floor> {
+struct Shift<L: JobLine, F: Floor, I: Idle> {
     pass: L::Pass,
     station: F::Station,
     // The replies so far.
     replies: Vec<Reply>,
     // The back-off between two takes that find no job.
     pause: Pause,
+    // What the worker does before it waits.
+    idle: I,
 }
 
-impl<L: JobLine, F: Floor> Shift<L, F> {
+impl<L: JobLine, F: Floor, I: Idle> Shift<L, F, I> {
     // Begins the work of a worker.
-    fn begin(alloc: Global, worker: Worker<L, F>) -> Self
+    fn begin(alloc: Global, worker: Worker<L, F>, idle: I) -> Self
         ensures pass { result.pass ≡ worker.pass }
         ensures station { result.station ≡ worker.station }
         ensures replies { result.replies.items ≡ [] }
@@ -76,11 +105,12 @@ impl<L: JobLine, F: Floor> Shift<L, F> {
             station,
             replies: Vec::new(alloc),
             pause: Pause::new(),
+            idle,
         }
     }
 
-    // Takes a job and runs it. If the queue is empty, waits for one back-off step. Returns a stop
-    // if the queue has ended.
+    // Takes a job and runs it. If the queue is empty, finds jobs or waits for one back-off step.
+    // Returns a stop if the queue has ended.
     fn serve_next<R: Wait, T: Runner>(
         self,
         rt: &R,
@@ -109,6 +139,7 @@ impl<L: JobLine, F: Floor> Shift<L, F> {
             station,
             mut replies,
             mut pause,
+            mut idle,
         } = self;
         match line.take(rt, &mut pass) {
             Taken::Job(id, job) => {
@@ -120,16 +151,18 @@ impl<L: JobLine, F: Floor> Shift<L, F> {
                     station: back,
                     replies,
                     pause,
+                    idle,
                 };
                 return (shift, None);
             }
-            Taken::EmptyNow => wait_for_job(rt, line, &mut pass, &mut pause),
+            Taken::EmptyNow => wait_for_job(rt, line, &mut pass, &mut pause, &mut idle),
             Taken::Ended(_) => {
                 let shift = Shift {
                     pass,
                     station,
                     replies,
                     pause,
+                    idle,
                 };
                 return (shift, Some(Stop::Ended));
             }
@@ -139,6 +172,7 @@ impl<L: JobLine, F: Floor> Shift<L, F> {
             station,
             replies,
             pause,
+            idle,
         };
         (shift, None)
     }
@@ -178,6 +212,7 @@ impl<L: JobLine, F: Floor> Shift<L, F> {
                     station,
                     replies,
                     pause: _,
+                    idle: _,
                 } = shift;
                 return WorkerEnd {
                     pass,
@@ -194,6 +229,7 @@ impl<L: JobLine, F: Floor> Shift<L, F> {
                     station,
                     replies,
                     pause: _,
+                    idle: _,
                 } = shift;
                 return WorkerEnd {
                     pass,
@@ -226,8 +262,27 @@ pub fn dispatch<R: Wait, L: JobLine, F: Floor, T: Runner>(
     ensures has_run { stop_of result ≢ Stop.NotRun }
     ensures no_limit { stop_of result ≢ Stop.Enough }
 {
+    dispatch_with(rt, alloc, shop, worker, runner, Waiting)
+}
+
+/// Takes and runs jobs as `dispatch` does. Where it finds the queue empty, it calls `idle`.
+pub fn dispatch_with<R: Wait, L: JobLine, F: Floor, T: Runner, I: Idle>(
+    rt: &R,
+    alloc: Global,
+    shop: &Shop<L, F>,
+    worker: Worker<L, F>,
+    runner: &T,
+    idle: I,
+) -> WorkerEnd<L, F>
+    requires { IsWorkerOf shop.now worker }
+    ensures of_shop { IsEndOf shop.now result }
+    ensures ended { stop_of result ≡ Stop.Ended → (before : L.Pass) ×
+        L.is_pass shop.now.line before × FindsTheEnd (L.pass_record before) (end_record result) }
+    ensures has_run { stop_of result ≢ Stop.NotRun }
+    ensures no_limit { stop_of result ≢ Stop.Enough }
+{
     let Shop { line, floor } = shop;
-    Shift::begin(alloc, worker).work(rt, line, floor, runner, None)
+    Shift::begin(alloc, worker, idle).work(rt, line, floor, runner, None)
 }
 
 /// Takes and runs jobs as `dispatch` does. Stops with `Enough` when there are `most` replies.
@@ -251,5 +306,5 @@ pub fn dispatch_some<R: Wait, L: JobLine, F: Floor, T: Runner>(
     ensures at_once { most ≡ 0 → end_record result ≡ worker_record worker }
 {
     let Shop { line, floor } = shop;
-    Shift::begin(alloc, worker).work(rt, line, floor, runner, Some(most))
+    Shift::begin(alloc, worker, Waiting).work(rt, line, floor, runner, Some(most))
 }

@@ -22,7 +22,7 @@ mod stop;
 mod worker;
 
 pub use closing::{CloseNote, Closer};
-pub use dispatching::{dispatch, dispatch_some};
+pub use dispatching::{Idle, Waiting, dispatch, dispatch_some, dispatch_with};
 pub use feeding::{FeedEnd, FeedStop, feed, feed_for, wait_for_room};
 pub use finishing::Finished;
 pub use floors::Floor;

@@ -19,6 +19,9 @@ impl<T> Model for Log<T> {
 // It owns nothing.
 unsafe impl<T: Send> Send for Log<T> {}
 
+// It shares nothing.
+unsafe impl<T: Sync> Sync for Log<T> {}
+
 impl<T> Log<T> {
     /// Returns the empty list.
     pub fn new() -> Log<T>

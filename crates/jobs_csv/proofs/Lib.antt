@@ -6,9 +6,8 @@ pub mod ColumnLemmas
 pub mod CommandLemmas
 pub mod LineLemmas
 pub mod PlainLemmas
-pub mod WrittenLemmas
 pub mod RowLemmas
-pub mod BufferLemmas
+pub mod EndedLemmas
 pub mod JobLemmas
 pub mod PlaceTextLemmas
 pub mod ValueLemmas

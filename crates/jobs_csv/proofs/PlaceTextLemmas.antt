@@ -1,5 +1,5 @@
 -- The text of the places, rank by rank.
-use Rattle.std.proofs.Common.{◌≡◌, ℕ, zero, suc, ◌+◌, ◌==◌, Bool, false, List, [], ◌∷◌, ◌++◌, map, if◌then◌else◌, refl, sym, ap, ◌∙◌, add-zero, arith}
+use Rattle.std.proofs.Common.{◌≡◌, ℕ, zero, suc, ◌+◌, ◌==◌, Bool, false, List, [], ◌∷◌, ◌++◌, map, if◌then◌else◌, refl, sym, ap, ◌∙◌, add-zero, append_assoc, arith}
 use Rattle.std.specs.List.{join_with_byte, range_with_len}
 use Rattle.std.proofs.lemmas.List.{map-append}
 use Rattle.std.proofs.lemmas.Bool.Decides.{nat_tests}
@@ -7,7 +7,13 @@ use Rattle.job_types.specs.Collective.{result_at}
 use Rattle.job_types.specs.Job.{JobData}
 use Rattle.jobs_csv.specs.Replies.{places_text}
 use Rattle.jobs_csv.specs.Text.{number_text}
-use Rattle.jobs_csv.proofs.WrittenLemmas.{joined_push}
+
+-- one more piece after others
+joined_push : (byte : ℕ) (first : List ℕ) (pieces : List (List ℕ)) (piece : List ℕ)
+    → join_with_byte byte ((first ∷ pieces) ++ piece ∷ []) ≡ join_with_byte byte (first ∷ pieces)
+    ++ (byte ∷ piece)
+joined_push byte first [] piece = refl
+joined_push byte first (second ∷ pieces) piece = ap (λ (rest : List ℕ). first ++ (byte ∷ rest)) (joined_push byte second pieces piece) ∙ sym (append_assoc first (byte ∷ join_with_byte byte (second ∷ pieces)) (byte ∷ piece))
 
 range_push : (from n : ℕ) → range_with_len from (suc n) ≡ range_with_len from n ++ (from + n) ∷ []
 range_push from zero = rw add-zero refl

@@ -1,5 +1,5 @@
 -- Fields that need no quotes.
-use Rattle.std.proofs.Common.{◌≡◌, ℕ, zero, suc, ◌+◌, ◌%◌, ◌^◌, ◌<◌, ◌≤◌, ◌⊎◌, ◌||◌, ◌&&◌, ◌==◌, Bool, true, false, List, [], ◌∷◌, ◌++◌, codes, length, nat_lt, None, All, if◌then◌else◌, refl, sym, ap, inl, inr, arith}
+use Rattle.std.proofs.Common.{◌≡◌, ℕ, zero, suc, ◌+◌, ◌%◌, ◌^◌, ◌<◌, ◌≤◌, ◌⊎◌, ◌||◌, ◌&&◌, ◌==◌, Bool, true, false, List, [], ◌∷◌, ◌++◌, codes, length, nat_lt, None, All, if◌then◌else◌, refl, sym, inl, inr, arith}
 use Rattle.std.specs.List.{list_any, list_all, flat_map, range_with_len}
 use Rattle.std.specs.Fmt.{decimal}
 use Rattle.std.specs.Int.{bit_at}
@@ -8,8 +8,7 @@ use Rattle.std.proofs.lemmas.Fmt.{decimal_by_steps}
 use Rattle.std.proofs.lemmas.Bool.{false≢true}
 use Rattle.std.proofs.lemmas.Bool.Decides.{nat_tests}
 use Rattle.std.proofs.lemmas.List.Elements.{All-append, All-push}
-use Rattle.std.proofs.lemmas.List.Folds.{list_any_none}
-use Rattle.csv.specs.Writing.{default_writer, field_text, needs_byte, quoted}
+use Rattle.csv.specs.Writing.{default_writer, needs_byte}
 use Rattle.cube_shape.specs.declared.limits.TheConstants.{MAX_STATIONS}
 use Rattle.cube_core.specs.declared.act.Refused.{Refused}
 use Rattle.cube_core.specs.declared.act.Refused.TheVariants as why
@@ -50,10 +49,6 @@ plain_decimal n lt =
     (λ digit _. all_one (48 + digit) (plain_byte (48 + digit) (inr (omega arith))))
     (λ more digits _ p. all_both digits ((48 + more % 10) ∷ []) p (all_one (48 + more % 10) (plain_byte (48 + more % 10) (inr (omega arith)))))
     n lt
-
--- a field of such bytes is written as it is
-pub as_it_is : (field : List ℕ) → IsPlainField field → field_text default_writer field ≡ field
-as_it_is field plain = ap (λ (quotes : Bool). if quotes then quoted default_writer field else field) (list_any_none (needs_byte default_writer) field plain.each)
 
 first_false : (a b : Bool) → (a || b) ≡ false → a ≡ false
 first_false true b e = e

@@ -21,21 +21,18 @@ const FULL: usize = 65_536;
 /// Contracts see the text that is buffered. A call that fails drops the buffer.
 #[derive(Drop)]
 pub struct LineBuffer {
-    // In boxes, since both are large and a buffer is passed by value.
-    writer: Box<Writer<Vec<u8>>>,
+    text: Vec<u8>,
+    // In a box, since a buffer is passed by value.
     fields: Box<RowFields>,
     alloc: Global,
 }
 
 impl Model for LineBuffer {
     ghost use Rattle.std.specs.Prelude.{List, ℕ};
-    ghost use Rattle.jobs_csv.specs.Inner.Output.{HasText, buffered, items_held};
 
     ghost Value = { List ℕ };
 
-    ghost view = { λ l. buffered l.writer.value };
-
-    ghost invariant = { λ l. HasText items_held l.writer.value (buffered l.writer.value) };
+    ghost view = { λ l. l.text.items };
 }
 
 // Writes all of a text.
@@ -63,7 +60,7 @@ impl LineBuffer {
         ensures { IfOk result (λ lines. lines ≡ []) }
     {
         Ok(LineBuffer {
-            writer: Box::new(alloc, Writer::from_writer(Vec::new(alloc)))?,
+            text: Vec::new(alloc),
             fields: Box::new(alloc, RowFields::new(alloc))?,
             alloc,
         })
@@ -75,7 +72,7 @@ impl LineBuffer {
     {
         self.fields.clear();
         T::push_columns(&mut self.fields)?;
-        self.fields.write_to(&mut self.writer)?;
+        self.fields.append_to(&mut self.text)?;
         Ok(self)
     }
 
@@ -85,7 +82,7 @@ impl LineBuffer {
     {
         self.fields.clear();
         row.push_fields(self.alloc, &mut self.fields)?;
-        self.fields.write_to(&mut self.writer)?;
+        self.fields.append_to(&mut self.text)?;
         Ok(self)
     }
 
@@ -94,23 +91,24 @@ impl LineBuffer {
         ensures { IfOk result (λ lines.
             lines ≡ self ++ row_text default_writer (fields_of fields.now)) }
     {
-        let Ok(()) = self.writer.write_byte_record(fields) else {
+        let mut writer = Writer::from_writer(replace(&mut self.text, Vec::new(self.alloc)));
+        let Ok(()) = writer.write_byte_record(fields) else {
             return Err(AllocError);
         };
+        let Ok(text) = writer.into_inner() else {
+            return Err(AllocError);
+        };
+        self.text = text;
         Ok(self)
     }
 
-    /// Buffers the line of a row and drops the row. Writes the buffer out if it is full.
-    pub fn write_row<T: Row + Drop, W: Write>(
-        self,
-        row: T,
-        writer: &mut W,
-    ) -> Result<Self, WriteError>
+    /// Buffers the line of a row. Writes the buffer out if it is full.
+    pub fn write_row<T: Row, W: Write>(self, row: &T, writer: &mut W) -> Result<Self, WriteError>
         ensures { IfOk result (λ lines. (out : List ℕ)
             × Appends (W.contents writer.old) (W.contents writer.new) out
-            × (out ++ lines ≡ self ++ line_of (T.fields row))) }
+            × (out ++ lines ≡ self ++ line_of (T.fields row.now))) }
     {
-        let lines = self.push(&row)?;
+        let lines = self.push(row)?;
         let lines = lines.flush_if_full(writer)?;
         Ok(lines)
     }
@@ -121,13 +119,8 @@ impl LineBuffer {
             (Appends (W.contents writer.old) (W.contents writer.new) self) }
         ensures empty { IfOk result (λ lines. lines ≡ []) }
     {
-        let full = replace(&mut *self.writer, Writer::from_writer(Vec::new(self.alloc)));
-        let Ok(mut text) = full.into_inner() else {
-            return Err(WriteError);
-        };
-        write_out(&text, writer)?;
-        text.clear();
-        *self.writer = Writer::from_writer(text);
+        write_out(&self.text, writer)?;
+        self.text.clear();
         Ok(self)
     }
 
@@ -137,7 +130,7 @@ impl LineBuffer {
             × Appends (W.contents writer.old) (W.contents writer.new) out
             × (out ++ lines ≡ self)) }
     {
-        if self.writer.get_ref().len() >= FULL {
+        if self.text.len() >= FULL {
             self.flush(writer)
         } else {
             Ok(self)

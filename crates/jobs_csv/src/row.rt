@@ -1,12 +1,10 @@
 // A row that is written, and the fields of its line.
 ghost use Rattle.std.specs.Prelude.{◌≡◌, ◌∷◌, [], ◌++◌, ◌≤◌, ℕ, List, OnOk, length, string_bytes};
 ghost use Rattle.std.specs.Fmt.{decimal};
-ghost use Rattle.csv.specs.Records.{fields_of};
-ghost use Rattle.jobs_csv.specs.Inner.Output.{AddsLine, HasPlainFields, items_held};
-ghost use Rattle.jobs_csv.specs.Text.{IsPlainField, number_text};
+ghost use Rattle.jobs_csv.specs.Inner.Output.{IsEnded, fields_in};
+ghost use Rattle.jobs_csv.specs.Text.{IsPlainField, line_of, number_text};
 
-use csv::{ByteRecord, Writer};
-use itoa::Buffer;
+use itoa::{Integer, write_digits};
 use std::alloc::{AllocError, Global};
 use std::marker::Model;
 use std::mem::replace;
@@ -33,39 +31,57 @@ pub trait Row {
         ensures some { 2 ≤ length (fields self.now) };
 }
 
+// The most digits of a number.
+const MAX_DIGITS: usize = u64::MAX_STR_LEN;
+
 /// The fields of a line, none of which needs quotes.
 ///
-/// Contracts see the list of their texts. A push that fails leaves no field.
+/// Contracts see the list of their texts.
 #[derive(Drop)]
 pub struct RowFields {
-    fields: ByteRecord,
+    // The bytes of the fields, with a comma after each.
+    line: Vec<u8>,
     // The room of the texts that rows make, so that not each of them reserves memory.
     room: String,
 }
 
 impl Model for RowFields {
     ghost use Rattle.std.specs.Prelude.{List, ℕ};
-    ghost use Rattle.csv.specs.Records.{fields_of};
-    ghost use Rattle.jobs_csv.specs.Inner.Output.{HasPlainFields};
+    ghost use Rattle.jobs_csv.specs.Inner.Output.{IsEnded, fields_in};
 
     ghost Value = { List (List ℕ) };
 
-    ghost view = { λ r. fields_of r.fields };
+    ghost view = { λ r. fields_in r.line.items };
 
-    ghost invariant = { λ r. HasPlainFields r.fields };
+    ghost invariant = { λ r. IsEnded r.line.items };
 }
 
-// Pushes a field. If there is no memory for it, no field is left.
-fn push_plain(fields: &mut ByteRecord, field: &[u8]) -> Result<(), AllocError>
+// Appends a field and a comma. If there is no memory for the comma, no field is left.
+fn push_plain(line: &mut Vec<u8>, field: &[u8]) -> Result<(), AllocError>
     requires plain { IsPlainField field.now }
-    requires had { HasPlainFields fields.old }
-    ensures has { HasPlainFields fields.new }
-    ensures pushed { OnOk result (fields_of fields.new ≡ fields_of fields.old ++ field.now ∷ []) }
+    requires had { IsEnded line.old.items }
+    ensures has { IsEnded line.new.items }
+    ensures pushed { OnOk result
+        (fields_in line.new.items ≡ fields_in line.old.items ++ field.now ∷ []) }
 {
-    let Ok(()) = fields.push_field(field) else {
-        fields.clear();
+    line.extend_from_slice(field)?;
+    let Ok(()) = line.push(b',') else {
+        line.clear();
         return Err(AllocError);
     };
+    Ok(())
+}
+
+// Appends a number in decimal digits and a comma. If there is no memory, the line stays.
+fn push_digits(line: &mut Vec<u8>, number: u64) -> Result<(), AllocError>
+    requires had { IsEnded line.old.items }
+    ensures has { IsEnded line.new.items }
+    ensures pushed { OnOk result
+        (fields_in line.new.items ≡ fields_in line.old.items ++ decimal number ∷ []) }
+{
+    let mut digits = [b','; MAX_DIGITS + 1];
+    let start = write_digits(number, &mut digits, MAX_DIGITS);
+    line.extend_from_slice(&digits[start..])?;
     Ok(())
 }
 
@@ -75,7 +91,7 @@ impl RowFields {
         ensures { result ≡ [] }
     {
         RowFields {
-            fields: ByteRecord::new(alloc),
+            line: Vec::new(alloc),
             room: String::new(alloc),
         }
     }
@@ -101,7 +117,7 @@ impl RowFields {
     pub(crate) fn clear(&mut self)
         ensures { self.new ≡ [] }
     {
-        self.fields.clear();
+        self.line.clear();
     }
 
     /// Pushes a text that needs no quotes.
@@ -109,15 +125,14 @@ impl RowFields {
         requires { IsPlainField text.now }
         ensures { OnOk result (self.new ≡ self.old ++ text.now ∷ []) }
     {
-        push_plain(&mut self.fields, text)
+        push_plain(&mut self.line, text)
     }
 
     /// Pushes a number in decimal digits.
     pub fn push_number(&mut self, number: u64) -> Result<(), AllocError>
         ensures { OnOk result (self.new ≡ self.old ++ decimal number ∷ []) }
     {
-        let mut digits = Buffer::new();
-        push_plain(&mut self.fields, digits.format(number).as_bytes())
+        push_digits(&mut self.line, number)
     }
 
     /// Pushes a number, or a dash for nothing.
@@ -130,14 +145,14 @@ impl RowFields {
         }
     }
 
-    /// Writes the fields as a line.
-    pub(crate) fn write_to(&self, writer: &mut Writer<Vec<u8>>) -> Result<(), AllocError>
-        requires { 2 ≤ length self.now }
-        ensures { OnOk result (AddsLine items_held writer.old writer.new self.now) }
+    /// Appends the line of the fields to a text.
+    pub(crate) fn append_to(&self, text: &mut Vec<u8>) -> Result<(), AllocError>
+        requires { 1 ≤ length self.now }
+        ensures { OnOk result (text.new.items ≡ text.old.items ++ line_of self.now) }
     {
-        let Ok(()) = writer.write_byte_record(&self.fields) else {
-            return Err(AllocError);
-        };
+        let last_comma = self.line.len() - 1;
+        text.extend_from_slice(&self.line[..last_comma])?;
+        text.push(b'\n')?;
         Ok(())
     }
 }

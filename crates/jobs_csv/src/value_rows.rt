@@ -60,7 +60,7 @@ fn push_value<W: Write>(
         × (out ++ more ≡ lines ++ value_lines (value_in id place value))) }
 {
     match value {
-        Some(value) => lines.write_row(ValueRow { id, place, value }, writer),
+        Some(value) => lines.write_row(&ValueRow { id, place, value }, writer),
         None => Ok(lines),
     }
 }
@@ -87,21 +87,20 @@ fn push_values<W: Write>(
 // Writes the lines of the values of these replies under their header.
 fn write_all_values<W: Write>(
     alloc: Global,
-    replies: Vec<Reply>,
+    replies: &[Reply],
     writer: &mut W,
 ) -> Result<(), WriteError>
     ensures { OnOk result (Appends (W.contents writer.old) (W.contents writer.new)
-        (values_text replies.items)) }
+        (values_text replies.now)) }
 {
     let mut lines = LineBuffer::new(alloc)?.push_header::<ValueRow>()?;
     for reply in replies {
-        lines = push_values(lines, &reply, writer)?;
+        lines = push_values(lines, reply, writer)?;
     }
     lines.finish(writer)
 }
 
-/// Writes a line for each value of these replies under their header. Drops each reply once its
-/// lines are made.
+/// Writes a line for each value of these replies under their header.
 ///
 /// A reply has a value for each item, in the order of the items. A reduction has one value alone,
 /// at the place of the root. The lines are written in pieces of about 64 KiB.
@@ -112,11 +111,11 @@ fn write_all_values<W: Write>(
 /// `u64::MAX` before it. Otherwise memory ran out. The first lines may have been written.
 pub fn write_values<W: Write + Device>(
     alloc: Global,
-    replies: Vec<Reply>,
+    replies: &[Reply],
     writer: &mut W,
 ) -> Result<(), Fault>
     ensures written { OnOk result (Appends (W.contents writer.old) (W.contents writer.new)
-        (values_text replies.items)) }
+        (values_text replies.now)) }
     ensures failed { IfErr result (λ fault.
         fault ≡ attribute FaultKind.Write (W.failures writer.old) (W.failures writer.new)) }
 {

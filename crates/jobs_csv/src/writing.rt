@@ -12,13 +12,13 @@ use std::alloc::Global;
 use std::io::Write;
 
 // Writes the lines of these rows under their header.
-fn write_all_rows<R: Row + Drop, W: Write>(
+fn write_all_rows<R: Row, W: Write>(
     alloc: Global,
-    rows: Vec<R>,
+    rows: &[R],
     writer: &mut W,
 ) -> Result<(), WriteError>
     ensures { OnOk result (Appends (W.contents writer.old) (W.contents writer.new)
-        (file_text R.columns R.fields rows.items)) }
+        (file_text R.columns R.fields rows.now)) }
 {
     let mut lines = LineBuffer::new(alloc)?.push_header::<R>()?;
     for row in rows {
@@ -27,7 +27,7 @@ fn write_all_rows<R: Row + Drop, W: Write>(
     lines.finish(writer)
 }
 
-/// Writes the lines of these rows under their header, and drops each row once its line is made.
+/// Writes the lines of these rows under their header.
 ///
 /// The lines are written in pieces of about 64 KiB.
 ///
@@ -35,13 +35,13 @@ fn write_all_rows<R: Row + Drop, W: Write>(
 ///
 /// Returns `Write` exactly if the writer's count of failed calls rose in this call, or was
 /// `u64::MAX` before it. Otherwise memory ran out. The first lines may have been written.
-pub fn write_rows<R: Row + Drop, W: Write + Device>(
+pub fn write_rows<R: Row, W: Write + Device>(
     alloc: Global,
-    rows: Vec<R>,
+    rows: &[R],
     writer: &mut W,
 ) -> Result<(), Fault>
     ensures written { OnOk result (Appends (W.contents writer.old) (W.contents writer.new)
-        (file_text R.columns R.fields rows.items)) }
+        (file_text R.columns R.fields rows.now)) }
     ensures failed { IfErr result (λ fault.
         fault ≡ attribute FaultKind.Write (W.failures writer.old) (W.failures writer.new)) }
 {

@@ -72,5 +72,5 @@ pub fn write_messages<W: Write + Device>(
     let Ok(rows) = message_rows(alloc, shape, k, root) else {
         return Err(Fault::attribute(FaultKind::Write, failures, failures));
     };
-    jobs_csv::write_rows(alloc, rows, writer)
+    jobs_csv::write_rows(alloc, &rows, writer)
 }

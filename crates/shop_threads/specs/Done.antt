@@ -14,7 +14,7 @@ pub record IsDone {M : Type 0} (end : RunEnd M) : Type 0 where
   pub lanes : All (λ l. l.stop ≡ Some Done) end.lanes.items
   pub workers : All (λ stop. stop ≢ NotRun) end.stops.items
 
--- The feed never ran, or found the queue closed, since memory or a thread was refused.
+-- The feed never ran, or found the queue closed, since memory was refused.
 abbrev pub is_cut_off : Option FeedStop → Bool
 is_cut_off None = true
 is_cut_off (Some Done) = false

@@ -8,6 +8,8 @@ use Rattle.job_queue.specs.declared.job_line.Refused.TheVariants as refused
 use Rattle.dispatcher.specs.declared.feeding.FeedStop.{FeedStop}
 use Rattle.dispatcher.specs.declared.feeding.FeedStop.TheVariants.{Done, Closed, LaneSpent, Turns}
 use Rattle.dispatcher.specs.Stop.{given_back, EndsWith}
+use Rattle.shop_threads.specs.declared.member.Offer.{Offer}
+use Rattle.shop_threads.specs.declared.member.Offer.TheVariants as offer
 use Rattle.shop_threads.specs.declared.member.Progress.{Progress}
 use Rattle.shop_threads.specs.declared.member.Progress.TheVariants.{NotRun, UnderWay, Stopped}
 
@@ -55,3 +57,9 @@ abbrev pub stop_in : Progress → Option FeedStop
 stop_in NotRun = None
 stop_in UnderWay = None
 stop_in (Stopped stop) = Some stop
+
+-- Whether the feed goes on after a try.
+abbrev pub goes_on : Offer → Bool
+goes_on offer.Accepted = true
+goes_on offer.Full = true
+goes_on offer.Stopped = false

@@ -22,7 +22,7 @@ use thiserror::Error;
 /// The reason why a batch stopped before all of its jobs ran.
 #[derive(Clone, Copy, Debug, PartialEq, Eq, Hash, Error)]
 pub enum StopReason {
-    /// Memory or a thread was refused.
+    /// Memory was refused.
     #[error("out of memory")]
     OutOfMemory,
     /// A lane has made as many entries as a lane may.
@@ -42,7 +42,7 @@ pub enum RunError<M> {
     },
     /// Some jobs may not have been submitted.
     Unfinished {
-        /// Whether memory or a thread was refused, or a lane was spent.
+        /// Whether memory was refused, or a lane was spent.
         why: StopReason,
         /// The end of the run: the replies, and what each lane did not submit.
         end: RunEnd<M>,
@@ -146,15 +146,15 @@ fn batch_of<M>(
 
 /// Runs all jobs: the lists of the lanes, by number from 0 upwards.
 ///
-/// It opens a dispatcher of these sizes with a lane for each list. Threads submit all lists at
-/// once, while all workers run jobs. Then it finishes the dispatcher. Each job then has one right
+/// It opens a dispatcher of these sizes with a lane for each list. Its workers submit all lists and
+/// run the jobs, as [`run`] says. Then it finishes the dispatcher. Each job then has one right
 /// reply, and the machine is wholly free.
 ///
 /// # Errors
 ///
 /// Nothing is lost. `Refused` has the jobs, and the first size that is not within its limits or
-/// `OutOfMemory`. `Unfinished` has the end of a run in which a thread or memory was refused, or a
-/// lane was spent.
+/// `OutOfMemory`. `Unfinished` has the end of a run in which memory was refused, or a lane was
+/// spent.
 pub fn answer_all<
     R: Threads + Wait + Sync,
     L: JobLine + SharedLine,

@@ -8,13 +8,13 @@ ghost use Rattle.job_queue.specs.Record.{accepted_jobs};
 ghost use Rattle.job_queue.specs.Line.{IsFor};
 ghost use Rattle.dispatcher.specs.Members.{IsWorkerOf, IsEndOf, IsCloserOf, IsNoteOf, stop_of};
 ghost use Rattle.dispatcher.specs.Stop.{given_back};
-ghost use Rattle.shop_threads.specs.InnerStop.{IsTakenBack, stop_in};
+ghost use Rattle.shop_threads.specs.InnerStop.{IsTakenBack, goes_on, stop_in};
 ghost use Rattle.shop_threads.specs.InnerEnd.{HasEnded};
 
 use crate::running::LaneEnd;
 use backoff::Pause;
 use dispatcher::{
-    CloseNote, Closer, FeedStop, Runner, Shop, Stop, Worker, WorkerEnd, dispatch, wait_for_room,
+    CloseNote, Closer, FeedStop, Idle, Runner, Shop, Stop, Worker, WorkerEnd, dispatch_with,
 };
 use floors::Floor;
 use job_queue::{JobLine, Refused};
@@ -24,7 +24,7 @@ use std::collections::VecDeque;
 use std::marker::{Brand, Model, PhantomData};
 use std::sync::Wait;
 
-// The number of jobs that a thread submits for a lane before it goes to the next lane.
+// The number of jobs that a worker submits for a lane before it goes to the next lane.
 const JOBS_OF_A_TURN: u32 = 8;
 
 /// A name for one run: its dispatcher, and the jobs of each lane.
@@ -68,6 +68,26 @@ impl Progress {
             Progress::Stopped(stop) => Some(stop),
         }
     }
+}
+
+// What came of a try to submit the next job of a lane.
+#[derive(Clone, Copy, PartialEq, Eq)]
+pub(crate) enum Offer {
+    // The queue has accepted it.
+    Accepted,
+    // The queue was full, and it is the next one again.
+    Full,
+    // No job of the lane is left, or the queue refused one for good.
+    Stopped,
+}
+
+// Some tries to submit the jobs of a lane.
+#[derive(Clone, Copy)]
+pub(crate) struct Turn {
+    // At most as many as were accepted.
+    pub accepted: u32,
+    // What came of the last try.
+    pub last: Offer,
 }
 
 /// A lane, and the jobs that it has still to submit.
@@ -156,43 +176,48 @@ impl<J: Naming, L: JobLine> LaneSlot<J, L> {
         }
     }
 
-    // Submits the next job unless the feed has stopped. Waits if the queue is full. Returns whether
-    // the feed goes on.
-    pub fn turn<R: Wait, F: Floor>(&mut self, rt: &R, shop: &Shop<L, F>, pause: &mut Pause) -> bool
+    // Submits the next job unless the feed has stopped.
+    fn offer<R: Wait, F: Floor>(&mut self, rt: &R, shop: &Shop<L, F>) -> Offer
         requires { shop.now ≡ J.shop }
-        ensures { self.new ≡ result }
+        ensures { self.new ≡ goes_on result }
     {
         if let Progress::Stopped(_) = self.progress {
-            return false;
+            return Offer::Stopped;
         }
         let Some(job) = self.left.pop_front() else {
             self.progress = Progress::Stopped(FeedStop::Done);
-            return false;
+            return Offer::Stopped;
         };
         self.progress = Progress::UnderWay;
         let Err((job, refused)) = shop.submit(rt, &mut self.lane, job) else {
-            pause.reset();
-            return true;
+            return Offer::Accepted;
         };
         let Some(stop) = take_back(&mut self.left, &mut self.back, job, refused) else {
-            wait_for_room(rt, shop, &mut self.lane, pause);
-            return true;
+            return Offer::Full;
         };
         self.progress = Progress::Stopped(stop);
-        false
+        Offer::Stopped
     }
 
-    // Submits the next few jobs unless the feed has stopped. Returns whether the feed goes on.
-    pub fn turns<R: Wait, F: Floor>(&mut self, rt: &R, shop: &Shop<L, F>, pause: &mut Pause) -> bool
+    // Submits the next few jobs, until the queue is full or the feed has stopped. Returns how many
+    // were accepted, and what came of the last try.
+    pub fn turn<R: Wait, F: Floor>(&mut self, rt: &R, shop: &Shop<L, F>) -> Turn
         requires { shop.now ≡ J.shop }
-        ensures { self.new ≡ result }
+        ensures { self.new ≡ goes_on result.last }
     {
-        for _ in 1..JOBS_OF_A_TURN {
-            if !self.turn(rt, shop, pause) {
-                return false;
+        for accepted in 1..JOBS_OF_A_TURN {
+            let last = self.offer(rt, shop);
+            if last != Offer::Accepted {
+                return Turn {
+                    accepted: accepted - 1,
+                    last,
+                };
             }
         }
-        self.turn(rt, shop, pause)
+        Turn {
+            accepted: JOBS_OF_A_TURN,
+            last: self.offer(rt, shop),
+        }
     }
 
     // Submits what is left, if the feed is under way.
@@ -203,8 +228,10 @@ impl<J: Naming, L: JobLine> LaneSlot<J, L> {
         if let Progress::UnderWay = self.progress {
             let mut pause = Pause::new();
             for _ in rt.forever() {
-                if !self.turn(rt, shop, &mut pause) {
-                    return;
+                match self.offer(rt, shop) {
+                    Offer::Stopped => return,
+                    Offer::Accepted => pause.reset(),
+                    Offer::Full => pause.wait(rt),
                 }
             }
             unreachable!()
@@ -282,14 +309,15 @@ impl<J: Naming, L: JobLine, F: Floor> WorkerSlot<J, L, F> {
         }
     }
 
-    // Runs the worker until it stops, unless it has run already. Returns whether memory ran out in
-    // it.
-    pub fn dispatch<R: Wait, T: Runner>(
+    // Runs the worker until it stops, unless it has run already. Where it finds the queue empty, it
+    // calls `idle`. Returns whether memory ran out in it.
+    pub fn dispatch<R: Wait, T: Runner, I: Idle>(
         &mut self,
         rt: &R,
         alloc: Global,
         shop: &Shop<L, F>,
         runner: &T,
+        idle: I,
     ) -> bool
         requires { shop.now ≡ J.shop }
         ensures has_run { IsSome self.new }
@@ -300,7 +328,7 @@ impl<J: Naming, L: JobLine, F: Floor> WorkerSlot<J, L, F> {
         let Some(worker) = self.worker.take() else {
             return false;
         };
-        let end = dispatch(rt, alloc, shop, worker, runner);
+        let end = dispatch_with(rt, alloc, shop, worker, runner, idle);
         let spent = ran_out(&end);
         match self.end.replace(end) {
             None => {}

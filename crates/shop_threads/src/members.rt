@@ -1,7 +1,8 @@
 // The slots of all members of a run, and what its threads do with them.
-use crate::member::{CloserSlot, LaneSlot, Naming, WorkerSlot};
+use crate::feeding::Feeding;
+use crate::member::{CloserSlot, LaneSlot, Naming, Offer, WorkerSlot};
+use crate::pace::Pace;
 use crate::threads::ThreadWork;
-use backoff::Pause;
 use dispatcher::{Runner, Shop};
 use floors::Floor;
 use job_queue::JobLine;
@@ -15,9 +16,8 @@ pub(crate) struct ShopMembers<'a, J: Naming, L: JobLine, F: Floor, T> {
     pub alloc: Global,
     pub worker_slots: Vec<Mutex<WorkerSlot<J, L, F>>>,
     pub lane_slots: Vec<Mutex<LaneSlot<J, L>>>,
-    // The number of threads that share the lanes.
-    pub feeder_threads: usize,
     pub closer_slot: Mutex<CloserSlot<J, L, F>>,
+    pub pace: Pace,
 }
 
 // The slots of the workers, of the lanes and of the closer.
@@ -30,17 +30,32 @@ type Slots<J, L, F> = (
 impl<'a, J: Naming, L: JobLine, F: Floor, T: Runner> ShopMembers<'a, J, L, F, T> {
     ghost use Rattle.std.specs.Prelude.{◌≡◌, length};
 
-    // Submits some jobs of each lane of a thread. Returns whether one of the lanes has more to do.
-    fn round<R: Wait>(&self, rt: &R, index: usize, pause: &mut Pause) -> bool
+    // Submits some jobs of each lane in turn, from lane `next` on, until the queue is full. Leaves
+    // out a lane that another worker feeds. Returns how many jobs were accepted, at most, and
+    // whether a lane may have more.
+    pub(crate) fn feed_lanes<R: Wait>(&self, rt: &R, next: &mut usize) -> (u64, bool)
         requires { self.now.shop.now ≡ J.shop }
     {
-        let mut goes_on = false;
-        let mut lane = index;
-        while let Some(slot) = self.lane_slots.get(lane) {
-            goes_on |= slot.lock(rt).turns(rt, self.shop, pause);
-            lane = lane.saturating_add(self.feeder_threads.max(1));
+        let mut accepted = 0u64;
+        let mut has_more = false;
+        for _ in 0..self.lane_slots.len() {
+            if *next >= self.lane_slots.len() {
+                *next = 0;
+            }
+            let slot = &self.lane_slots[*next];
+            *next = next.saturating_add(1);
+            let Some(mut lane) = slot.try_lock() else {
+                has_more = true;
+                continue;
+            };
+            let turn = lane.turn(rt, self.shop);
+            accepted = accepted.saturating_add(u64::from(turn.accepted));
+            has_more |= turn.last != Offer::Stopped;
+            if turn.last == Offer::Full {
+                break;
+            }
         }
-        goes_on
+        (accepted, has_more)
     }
 
     // Returns all slots after their threads have ended.
@@ -54,8 +69,8 @@ impl<'a, J: Naming, L: JobLine, F: Floor, T: Runner> ShopMembers<'a, J, L, F, T>
             alloc: _,
             worker_slots,
             lane_slots,
-            feeder_threads: _,
             closer_slot,
+            pace: _,
         } = self;
         (worker_slots, lane_slots, closer_slot)
     }
@@ -70,31 +85,20 @@ impl<'a, J: Naming, L: JobLine, F: Floor, T: Runner> ThreadWork for ShopMembers<
         self.worker_slots.len()
     }
 
-    fn feeder_count(&self) -> usize {
-        self.lane_slots.len().min(self.feeder_threads)
-    }
-
     fn work<R: Wait>(&self, rt: &R, index: usize) {
         if let Some(slot) = self.worker_slots.get(index) {
+            let feeding = Feeding::begin(rt, self, index);
             let spent = slot
                 .lock(rt)
-                .dispatch(rt, self.alloc, self.shop, self.runner);
+                .dispatch(rt, self.alloc, self.shop, self.runner, feeding);
             if spent {
                 self.close(rt);
             }
         }
     }
 
-    fn feed<R: Wait>(&self, rt: &R, index: usize) {
-        let mut pause = Pause::new();
-        for _ in rt.forever() {
-            if !self.round(rt, index, &mut pause) {
-                return;
-            }
-        }
-    }
-
     fn close<R: Wait>(&self, rt: &R) {
         self.closer_slot.lock(rt).close(rt, self.shop);
+        self.pace.end();
     }
 }

@@ -13,6 +13,7 @@ ghost use Rattle.shop_threads.specs.Members.{RanIn};
 
 use crate::member::{CloserSlot, Naming};
 use crate::members::ShopMembers;
+use crate::pace::Pace;
 use crate::ready::{EndRoom, MemberRoom, Ready, make_ready};
 use crate::shared::{SharedFloor, SharedLine};
 use crate::slots::{lanes_from_slots, slots_for_lanes, slots_for_workers, workers_from_slots};
@@ -27,7 +28,7 @@ use std::alloc::Global;
 use std::collections::VecDeque;
 use std::marker::Brand;
 use std::sync::{Mutex, Wait};
-use std::thread::{Threads, available_parallelism};
+use std::thread::Threads;
 
 /// The end of a lane in a run.
 #[derive(Debug, Drop)]
@@ -101,15 +102,6 @@ fn part<L: JobLine>(
     }
     fed.destroy_empty();
     (lanes, ends)
-}
-
-// Returns how many threads share the lanes: one for each four processors, and at least one. Such a
-// thread mostly waits for room in the queue, and its tries then slow the workers.
-fn feeder_threads<R: Threads>(rt: &R) -> usize {
-    match available_parallelism(rt) {
-        Ok(processors) => (processors.get() / 4).max(1),
-        Err(_) => 1,
-    }
 }
 
 // Finishes a dispatcher whose members have stopped, and returns the end of its run.
@@ -206,8 +198,8 @@ fn run_named<
         alloc,
         worker_slots,
         lane_slots,
-        feeder_threads: feeder_threads(rt),
         closer_slot: Mutex::new(CloserSlot::new(closer)),
+        pace: Pace::new(),
     };
     if all_have_slots {
         run_threads(rt, &members);
@@ -227,15 +219,17 @@ fn run_named<
 
 /// Runs a dispatcher of these sizes on threads, with a lane for each list of jobs.
 ///
-/// It opens the dispatcher, submits all lists at once while all workers run jobs, closes the
-/// dispatcher and finishes it. Each worker has a thread of its own. The lanes share a thread for
-/// each four processors, and have at most one each. A thread with several lanes submits some jobs
-/// of each in turn.
+/// It opens the dispatcher, submits all lists while workers run jobs, closes the dispatcher and
+/// finishes it. The calling thread is the first worker, and each other worker has a thread of its
+/// own. A worker that finds the queue empty submits some jobs of each lane in turn. The others
+/// sleep while the first one is fast enough, and look each millisecond. So long jobs run on all
+/// workers at once, and small ones mostly on one.
 ///
 /// In the end each accepted job has one right reply. The jobs that a lane has accepted, followed by
-/// those that it did not submit, are its list. If a thread cannot be started, or memory runs out
-/// for one more reply, the dispatcher closes early. Then some jobs may not be submitted. A worker
-/// without a thread has stopped as `NotRun`, and a lane without one has no stop.
+/// those that it did not submit, are its list. If a thread cannot be started, the calling thread
+/// does its work. If memory runs out for one more reply, the dispatcher closes early. Then some
+/// jobs may not be submitted. If memory runs out for a member, no job is submitted. Then each
+/// worker has stopped as `NotRun`, and a lane has no stop.
 ///
 /// # Errors
 ///

@@ -85,7 +85,7 @@ pub(crate) fn slots_for_workers<J: Naming, L: JobLine, F: Floor>(
     worker_slots
 }
 
-// Takes the workers that have stopped out of their slots.
+// Takes the workers that have stopped out of their slots, in the order of these.
 pub(crate) fn workers_from_slots<J: Naming, L: JobLine, F: Floor>(
     alloc: Global,
     mut worker_slots: Vec<Mutex<WorkerSlot<J, L, F>>>,
@@ -96,6 +96,7 @@ pub(crate) fn workers_from_slots<J: Naming, L: JobLine, F: Floor>(
     ensures count { length ends.new.items ≡ length worker_slots.items + length ends.old.items }
     ensures ends { All (IsEndOf J.shop) ends.new.items }
 {
+    worker_slots.reverse();
     while let Some(slot) = worker_slots.pop() {
         ends.push_reserved(slot.into_inner().into_end(alloc));
     }

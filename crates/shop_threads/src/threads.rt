@@ -14,15 +14,8 @@ pub(crate) trait ThreadWork {
     // Returns the number of workers.
     fn worker_count(&self) -> usize;
 
-    // Returns the number of threads that feed lanes.
-    fn feeder_count(&self) -> usize;
-
-    // Does the work of a worker's thread.
+    // Does the work of a worker, unless it is done already.
     fn work<R: Wait>(&self, rt: &R, index: usize)
-        requires { is_ready self.now };
-
-    // Does the work of a thread that feeds lanes.
-    fn feed<R: Wait>(&self, rt: &R, index: usize)
         requires { is_ready self.now };
 
     // Closes the dispatcher, unless it is closed already.
@@ -35,24 +28,23 @@ fn with_stack() -> Builder {
     Builder::new().stack_size(STACK_BYTES)
 }
 
-// Starts a thread for each worker, and then those that feed, each for some of the lanes. When all
-// of these have ended, closes the dispatcher and waits for the workers. If a thread cannot be
-// started, no other one is.
+// Does the work of the first worker on this thread, and that of each other one on a thread of its
+// own. If a thread cannot be started, no other one is, and this thread does what is left.
 pub(crate) fn run_threads<R: Threads + Wait + Sync, C: ThreadWork + Sync>(rt: &R, members: &C)
     requires { C.is_ready members.now }
 {
     thread::scope(
         thread::scope_env(),
         rt,
-        |workers|
+        |others|
             requires { C.is_ready members.now }
         {
             let mut started = true;
-            for index in 0..members.worker_count() {
+            for index in 1..members.worker_count() {
                 if started {
                     started = with_stack()
                         .spawn_scoped(
-                            workers,
+                            others,
                             move ||
                                 requires { C.is_ready members.now }
                             { members.work(rt, index) },
@@ -60,41 +52,10 @@ pub(crate) fn run_threads<R: Threads + Wait + Sync, C: ThreadWork + Sync>(rt: &R
                         .is_ok();
                 }
             }
-            if started {
-                feed_on_threads(rt, members);
-            }
-            members.close(rt);
+            members.work(rt, 0);
         },
     );
-}
-
-// Starts the threads that feed, and waits for them. If one cannot be started, closes the dispatcher
-// at once, so that the others stop early.
-fn feed_on_threads<R: Threads + Wait + Sync, C: ThreadWork + Sync>(rt: &R, members: &C)
-    requires { C.is_ready members.now }
-{
-    thread::scope(
-        thread::scope_env(),
-        rt,
-        |feeders|
-            requires { C.is_ready members.now }
-        {
-            let mut started = true;
-            for index in 0..members.feeder_count() {
-                if started {
-                    started = with_stack()
-                        .spawn_scoped(
-                            feeders,
-                            move ||
-                                requires { C.is_ready members.now }
-                            { members.feed(rt, index) },
-                        )
-                        .is_ok();
-                }
-            }
-            if !started {
-                members.close(rt);
-            }
-        },
-    );
+    for index in 1..members.worker_count() {
+        members.work(rt, index);
+    }
 }

@@ -13,5 +13,6 @@ mod over;
 mod runs;
 mod shop;
 mod slot;
+mod sorted;
 mod stage;
 mod starts;

@@ -20,9 +20,8 @@ use std::collections::VecDeque;
 use std::sync::Wait;
 use std::thread::Threads;
 
-/// Runs the jobs of all lanes on a machine of dimension `n` by the runner. Four workers do this on
-/// threads of their own. Counts the processors that the jobs had together. Returns `None` if memory
-/// or a thread was refused.
+/// Runs the jobs of all lanes on a machine of dimension `n` by the runner and four workers. Counts
+/// the processors that the jobs had together. Returns `None` if memory was refused.
 pub fn answer_and_count<R: Threads + Wait + Sync, T: Runner + Sync>(
     rt: &R,
     alloc: Global,

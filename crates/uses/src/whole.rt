@@ -11,7 +11,7 @@ use std::sync::Wait;
 use std::thread::Threads;
 
 /// Returns the replies to the jobs of all lanes, one for each, lane by lane. Four workers run the
-/// jobs on a machine of dimension `n`. Returns `None` if memory or a thread was refused.
+/// jobs on a machine of dimension `n`. Returns `None` if memory was refused.
 pub fn answer_in_order<R: Threads + Wait + Sync>(
     rt: &R,
     alloc: Global,

@@ -10,8 +10,7 @@ use Rattle.jobs_csv.specs.declared.fault.FaultKind.{FaultKind}
 use Rattle.jobs_csv.specs.declared.fault.FaultKind.TheVariants as what
 use Rattle.cli_commands.specs.declared.shop.AnswerError.{AnswerError}
 
--- The kind of the fault, by the reason: a lane is spent, or else memory ran out or a thread could
--- not be started.
+-- The kind of the fault, by the reason: a lane is spent, or else memory ran out.
 abbrev pub kind_of_reason : StopReason → FaultKind
 kind_of_reason why.OutOfMemory = what.OutOfMemory
 kind_of_reason why.Spent = what.Spent

@@ -1,43 +1,23 @@
--- What a writer of records has written, for the proofs of rows and of the buffer.
-use Rattle.std.specs.Prelude.{◌≡◌, ℕ, false, List, [], ◌++◌, Option, Some, None, All, Vec}
-use Rattle.std.specs.Global.{Global}
-use Rattle.csv.specs.Records.{Row, fields_of, partial_of}
-use Rattle.csv.specs.Writing.{default_writer, fields_written, has_written, text_written, writer_setup}
-use Rattle.csv.specs.declared.writer.Writer.{Writer}
-use Rattle.jobs_csv.specs.Text.{IsPlainField, line_of}
+-- The bytes of a line that is written, and the fields that they spell, for the proofs of rows.
+use Rattle.std.specs.Prelude.{◌≡◌, ℕ, ◌==◌, List, [], ◌∷◌, ◌++◌, if◌then◌else◌}
+use Rattle.std.specs.List.{flat_map}
 
--- A writer with the crate's defaults has written this text, and is between two records.
-pub record HasText {W : Type 0} (contents : W → Option (List ℕ)) (writer : Writer W)
-    (text : List ℕ) : Type 0 where
-  pub written : text_written contents writer ≡ Some text
-  pub setup : writer_setup writer ≡ default_writer
-  pub fields : fields_written writer ≡ 0
-  pub between : has_written writer ≡ false
+-- The fields that commas end, if these bytes of the first one are read already. Bytes with no comma
+-- after them are no field.
+abbrev pub fields_after : List ℕ → List ℕ → List (List ℕ)
+fields_after begun [] = []
+fields_after begun (byte ∷ bytes) =
+    if byte == 44 then begun ∷ fields_after [] bytes else fields_after (begun ++ byte ∷ []) bytes
 
--- Whatever text the writer had written, it has now also written the line of these fields.
-abbrev pub AddsLine : {W : Type 0}
-    → (W → Option (List ℕ))
-    → Writer W
-    → Writer W
-    → List (List ℕ)
-    → Type 0
-AddsLine contents old new fields =
-    (text : List ℕ) → HasText contents old text → HasText contents new (text ++ line_of fields)
+-- The fields that commas end.
+abbrev pub fields_in : List ℕ → List (List ℕ)
+fields_in bytes = fields_after [] bytes
 
--- A record of fields that need no quotes, with no byte of a further field.
-pub record HasPlainFields (fields : Row) : Type 0 where
-  pub whole : partial_of fields ≡ []
-  pub plain : All (λ field. IsPlainField field) (fields_of fields)
+-- The fields with a comma after each.
+abbrev pub with_commas : List (List ℕ) → List ℕ
+with_commas fields = flat_map (λ field. field ++ 44 ∷ []) fields
 
--- The bytes that a vector holds, as what a writer has written.
-abbrev pub items_held : Vec ℕ Global → Option (List ℕ)
-items_held bytes = Some bytes.items
-
--- The text, or no byte if it is unknown.
-abbrev pub known : Option (List ℕ) → List ℕ
-known (Some text) = text
-known None = []
-
--- The text that was written into a vector of bytes.
-abbrev pub buffered : Writer (Vec ℕ Global) → List ℕ
-buffered writer = known (text_written items_held writer)
+-- The bytes are fields with a comma after each, and what follows begins a further field.
+pub record IsEnded (bytes : List ℕ) : Type 0 where
+  pub all : bytes ≡ with_commas (fields_in bytes)
+  pub more : (next : List ℕ) → fields_in (bytes ++ next) ≡ fields_in bytes ++ fields_in next

@@ -125,6 +125,7 @@ fn three_jobs_of_a_shown_run_are_inside_at_once(rt: HostRuntime) {
     let task = Task {
         invocation: Invocation::Run(options),
         runner: &meeting,
+        is_last: false,
     };
     let mut terminal = Some(Vec::new(rt.alloc()));
     let answer = answer(

@@ -34,6 +34,7 @@ where
     let task = Task {
         invocation: Invocation::Run(options),
         runner: &Plain,
+        is_last: true,
     };
     let answer = answer(rt, rt.alloc(), task, &mut reader, &mut writer, terminal);
     expect_true(

@@ -115,7 +115,7 @@ fn first_answered(job: Job) -> Reply {
 // Returns whether the file of these replies is this.
 pub(crate) fn writes(rt: &(impl AllocGlobal + Abort), replies: Vec<Reply>, wanted: &[u8]) -> bool {
     let mut writer = Counted::new(Vec::new(rt.alloc()));
-    let answer = write_rows(rt.alloc(), replies, &mut writer);
+    let answer = write_rows(rt.alloc(), &replies, &mut writer);
     (answer == Ok(())) & (writer.failures() == 0) & (writer.get_ref().as_slice() == wanted)
 }
 

@@ -63,7 +63,11 @@ where
     requires { IsWithinLimits invocation }
 {
     let runner = &Plain;
-    let task = Task { invocation, runner };
+    let task = Task {
+        invocation,
+        runner,
+        is_last: false,
+    };
     let mut reader = Counted::new(input);
     let alloc = rt.alloc();
     let mut events = EventsFile { alloc, file };

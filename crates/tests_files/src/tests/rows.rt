@@ -8,8 +8,8 @@ use crate::tests::readings::{name_of, writes};
 use cube_core::{Event, Kind, Note, Refused};
 use job_types::{JobId, Op, Reply};
 use jobs_csv::{
-    Counted, Device, FaultKind, LineBuffer, PlaceRow, ReplayRow, ReportRow, Row, WriteError,
-    write_rows,
+    Counted, Device, FaultKind, LineBuffer, PlaceRow, ReplayRow, ReportRow, Row, ValueRow,
+    WriteError, write_rows,
 };
 use std::io::Write;
 use std::process::Abort;
@@ -264,6 +264,33 @@ fn writes_refusals_and_words(rt: HostRuntime) {
     );
 }
 
+// The row of a value at this place of the first job of lane 0.
+fn value_row(place: u64, value: u64) -> ValueRow {
+    let id = JobId { lane: 0, seq: 0 };
+    ValueRow { id, place, value }
+}
+
+// The least and the greatest numbers of one, two, three, 19 and 20 digits.
+#[test]
+fn writes_numbers_of_any_length(rt: HostRuntime) {
+    expect_text(
+        &rt,
+        &[
+            value_row(0, 9),
+            value_row(10, 99),
+            value_row(100, 999),
+            value_row(1_000_000_000_000_000_000, 9_999_999_999_999_999_999),
+            value_row(10_000_000_000_000_000_000, u64::MAX),
+        ],
+        "lane,seq,place,value\n\
+         0,0,0,9\n\
+         0,0,10,99\n\
+         0,0,100,999\n\
+         0,0,1000000000000000000,9999999999999999999\n\
+         0,0,10000000000000000000,18446744073709551615\n",
+    );
+}
+
 // Writes `count` lines of 30 bytes.
 fn write_many<W: Write>(
     lines: LineBuffer,
@@ -272,7 +299,8 @@ fn write_many<W: Write>(
 ) -> Result<LineBuffer, WriteError> {
     let mut lines = lines;
     for _row in 0..count {
-        lines = lines.write_row(refused(0, Some(1_000_000), Refused::NotInCube), writer)?;
+        let row = refused(0, Some(1_000_000), Refused::NotInCube);
+        lines = lines.write_row(&row, writer)?;
     }
     Ok(lines)
 }
@@ -309,7 +337,7 @@ fn fails_to_write(rt: &(impl AllocGlobal + Abort), calls: u64, gives_zero: bool)
     };
     let mut writer = Counted::new(device);
     let two = replies_to(rt, job_types::Kind::AllReduce { op: Op::Add }, &TWO);
-    let answer = write_rows(rt.alloc(), two, &mut writer);
+    let answer = write_rows(rt.alloc(), &two, &mut writer);
     let failed = writer.failures() != 0;
     expect_true(rt, tells(answer, failed, FaultKind::Write));
     failed

@@ -1,5 +1,0 @@
-use Rattle.dispatcher.proofs.WorkLemmas.{no_limit}
-use Rattle.dispatcher.proofs.dispatching.dispatch.Goals as goal
-
-pub returns-clause-no_limit : goal.returns-clause-no_limit
-returns-clause-no_limit g c = λ stop. no_limit _ (c.work.ensures.enough stop)
