@@ -6,7 +6,6 @@ use cubejobs::fit::FirstFit;
 use cubejobs::lanes::{Lanes, Sizes};
 use cubejobs::regions;
 use cubejobs::rounds::{Collective, Shape};
-use cubejobs::Machine;
 use std::hint::black_box;
 use std::time::Instant;
 
@@ -24,23 +23,22 @@ fn row(name: &str, mut call: impl FnMut(u32)) {
     println!("{name}\t{least}");
 }
 
-fn exact() {
-    let mut machine = Machine::new(12).unwrap();
-    row("exact, n = 12: a pair of dimension 0 to 3", |i| {
-        black_box(machine.take(5, i % 4).unwrap());
-        machine.release(5).unwrap();
-    });
-    (0..31).for_each(|station| _ = machine.take(station, station % 7).unwrap());
-    row("exact, n = 12: a pair beside 31 blocks", |i| {
-        black_box(machine.take(40, i % 7).unwrap());
-        machine.release(40).unwrap();
-    });
-    row("exact, n = 12: a refused take", |_| assert!(black_box(machine.take(40, 12)).is_err()));
-    let mut fit = FirstFit::new(vec![false; 1 << 12], 12).unwrap();
-    row("first fit, n = 12: a pair of dimension 0 to 3", |i| {
-        let region = black_box(fit.take(i % 4).unwrap());
-        fit.release(region).unwrap();
-    });
+fn fit() {
+    for dim in [12, 20] {
+        let mut machine = FirstFit::new(dim).unwrap();
+        row(&format!("first fit, n = {dim}: a pair of dimension 0 to 3"), |i| {
+            let block = black_box(machine.take(i % 4).unwrap());
+            machine.release(block).unwrap();
+        });
+        (0..31).for_each(|k| _ = machine.take(k % 7).unwrap());
+        row(&format!("first fit, n = {dim}: a pair beside 31 blocks"), |i| {
+            let block = black_box(machine.take(i % 7).unwrap());
+            machine.release(block).unwrap();
+        });
+        row(&format!("first fit, n = {dim}: a refused take"), |_| {
+            assert!(black_box(machine.take(dim)).is_err())
+        });
+    }
 }
 
 fn blocks() {
@@ -88,7 +86,7 @@ fn rounds() {
 }
 
 fn main() {
-    exact();
+    fit();
     blocks();
     jobs();
     rounds();

@@ -12,7 +12,7 @@
 // know of each other. A block is released when its shell ends: what a command leaves in the
 // background may share it then. We measured no gain of speed by pinning, and claim none. In a clone:
 //
-//     cc -Iinclude examples/pinjobs.c release/linux-x86_64/libcubejobs_c.a -o pinjobs
+//     cc -Iinclude examples/pinjobs.c release/linux-x86_64/libcubejobs_fit.a -o pinjobs
 #define _GNU_SOURCE
 #include <fcntl.h>
 #include <sched.h>
@@ -23,13 +23,13 @@
 #include <sys/wait.h>
 #include <unistd.h>
 
-#include "cubejobs.h"
+#include "cubejobs_fit.h"
 
 static const char *const SHARED[] = {"topology/package_cpus_list", "cache/index3/shared_cpu_list",
                                      "cache/index2/shared_cpu_list", "topology/thread_siblings_list"};
 static uint64_t cpus[CPU_SETSIZE]; // the first CPU that shares each of these with it, and itself
 static struct job { unsigned line, want, dim; pid_t pid; char *text; } *jobs, *by_base[CPU_SETSIZE];
-static unsigned char held[CPU_SETSIZE];
+static uint64_t image[12 + 2 * CPU_SETSIZE / 8];
 static struct cubejobs_fit fit;
 static sigset_t signals, before;
 
@@ -63,8 +63,8 @@ static void find_cpus(void) {
     }
     qsort(cpus, count, sizeof *cpus, by_place);
     while (1u << dim < count) dim++;
-    unsigned code = cubejobs_fit_open(&fit, held, sizeof held, dim);
-    for (unsigned p = count; !code && p < 1u << dim; p++) code = cubejobs_fit_take_region(&fit, p, 0).code;
+    unsigned code = cubejobs_fit_open(&fit, image, sizeof image, dim);
+    for (unsigned p = count; !code && p < 1u << dim; p++) code = cubejobs_fit_take_at(&fit, p, 0).code;
     if (code) {
         fprintf(stderr, "pinjobs: %s\n", cubejobs_code_text(code));
         exit(1);
@@ -112,8 +112,8 @@ int main(int argc, char **argv) {
     sigemptyset(&signals), sigaddset(&signals, SIGINT), sigaddset(&signals, SIGTERM), sigaddset(&signals, SIGCHLD);
     sigprocmask(SIG_BLOCK, &signals, &before);
     for (int is_stop, status;;) {
-        for (struct cubejobs_answer block; next < count && !stops && !broken; active++) {
-            if ((block = cubejobs_fit_take(&fit, jobs[next].dim)).code != CUBEJOBS_DONE) break;
+        for (struct cubejobs_fit_answer block; next < count && !stops && !broken; active++) {
+            if ((block = cubejobs_fit_take(&fit, jobs[next].dim)).code != CUBEJOBS_FIT_DONE) break;
             if ((jobs[next].pid = fork()) == 0) run(&jobs[next], block.base);
             if (jobs[next].pid < 0) { perror("pinjobs: fork"), broken = 1; break; }
             setpgid(jobs[next].pid, jobs[next].pid), by_base[block.base] = &jobs[next++];

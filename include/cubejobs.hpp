@@ -2,7 +2,8 @@
  * comes back.
  *
  * cubejobs::machine is a handle of a machine of cubejobs_regions.h, for one thread.
- * cubejobs::first_fit is a machine of cubejobs.h in memory of its own, for one thread at a time.
+ * cubejobs::first_fit is a machine of cubejobs_fit.h, for one thread at a time, in memory of its own
+ * or of yours.
  * cubejobs::lanes and cubejobs::dispatch own those of cubejobs_dispatch.h. They give out a lane for
  * each producer and a worker for each consumer. cubejobs::running is a job on its block.
  *
@@ -29,6 +30,7 @@
 #include <atomic>
 #include <chrono>
 #include <condition_variable>
+#include <cstddef>
 #include <cstdint>
 #include <memory>
 #include <mutex>
@@ -37,8 +39,8 @@
 #include <utility>
 #include <vector>
 
-#include "cubejobs.h"
 #include "cubejobs_dispatch.h"
+#include "cubejobs_fit.h"
 #include "cubejobs_regions.h"
 
 namespace cubejobs {
@@ -257,48 +259,112 @@ class machine {
 };
 using block = machine::block;
 
-/* A machine with exact first fit. */
+/* A machine with exact first fit, in memory of its own or of the caller. */
 class first_fit {
   public:
     using block = owned<first_fit>;
-    explicit first_fit(std::uint32_t dim) : handle(std::make_shared<shared>(dim)) {
-        reason = handle->opened;
-        if (reason) handle.reset();
-        check(reason);
+    /* Opens a machine in memory of its own. */
+    explicit first_fit(std::uint32_t dim) : first_fit(std::make_shared<shared>(dim)) {}
+    /* Opens a machine in memory of the caller, which must stay as long as an owner uses it. */
+    static first_fit open(void *memory, std::size_t size, std::uint32_t dim) {
+        return first_fit(std::make_shared<shared>(cubejobs_fit_open, memory, size, dim));
+    }
+    /* Uses a machine that is in memory of the caller. Its blocks have no owner. */
+    static first_fit attach(void *memory, std::size_t size, std::uint32_t dim) {
+        return first_fit(std::make_shared<shared>(cubejobs_fit_attach, memory, size, dim));
+    }
+    /* Does the same, after a process died inside a call. */
+    static first_fit repair(void *memory, std::size_t size, std::uint32_t dim) {
+        return first_fit(std::make_shared<shared>(cubejobs_fit_repair, memory, size, dim));
     }
     first_fit(first_fit &&) = default;
     first_fit &operator=(first_fit &&) = default;
     /* Returns why there is no machine: DONE if there is one, BAD_SIZE if it was moved from. */
-    std::uint32_t code() const {
-        if (handle) return CUBEJOBS_DONE;
-        return reason ? reason : std::uint32_t{CUBEJOBS_BAD_SIZE};
+    std::uint32_t code() const { return handle ? std::uint32_t{CUBEJOBS_FIT_DONE} : reason; }
+    block take(std::uint32_t k) { return filled(handle ? cubejobs_fit_take(&handle->fit, k) : empty()); }
+    block take_at(std::uint64_t base, std::uint32_t k) {
+        return filled(handle ? cubejobs_fit_take_at(&handle->fit, base, k) : empty());
     }
-    block take(std::uint32_t k) {
-        block made;
-        made.taken.code = CUBEJOBS_BAD_SIZE;
-        if (handle) made.taken = cubejobs_fit_take(&handle->fit, k);
-        if (!made.taken.code) made.handle = handle;
-        return made;
+    /* Returns an owner of the held block that has a processor. No other owner may have it: it is a
+     * block that the machine had before an attach or a repair, or one that was left. */
+    block own(std::uint64_t processor) { return filled(block_with(processor)); }
+    /* Leaves a block held. Then no owner has it. */
+    void leave(block &it) {
+        it.handle.reset();
+        it.taken = nothing();
+    }
+    /* Leaves the block its lower half, and returns the upper one. One processor has no halves. */
+    block split(block &lower) {
+        if (!handle) return filled(empty());
+        block upper;
+        if (lower.handle != handle) return upper;
+        upper.taken.code = cubejobs_fit_split(&handle->fit, lower.base(), lower.dim());
+        if (upper.taken.code) return upper;
+        lower.taken.dim--;
+        return filled({CUBEJOBS_FIT_DONE, lower.dim(), lower.base() + (std::uint64_t{1} << lower.dim())});
+    }
+    /* Joins a lower half with the upper one, which then owns nothing. Returns whether it did. */
+    bool join(block &lower, block &upper) {
+        if (!handle || lower.handle != handle || upper.handle != handle || lower.dim() != upper.dim()) return false;
+        if (lower.base() + (std::uint64_t{1} << lower.dim()) != upper.base()) return false;
+        if (cubejobs_fit_join(&handle->fit, lower.base(), lower.dim() + 1)) return false;
+        lower.taken.dim++;
+        leave(upper);
+        return true;
+    }
+    cubejobs_fit_answer first(std::uint32_t k) const { return handle ? cubejobs_fit_first(&handle->fit, k) : empty(); }
+    cubejobs_fit_answer first_apart(std::uint32_t k, std::uint64_t base, std::uint32_t avoid) const {
+        return handle ? cubejobs_fit_first_apart(&handle->fit, k, base, avoid) : empty();
+    }
+    cubejobs_fit_answer block_with(std::uint64_t processor) const {
+        return handle ? cubejobs_fit_block_with(&handle->fit, processor) : empty();
+    }
+    bool is_free(std::uint64_t base, std::uint32_t k) const {
+        return handle && cubejobs_fit_is_free(&handle->fit, base, k);
+    }
+    cubejobs_fit_answer largest() const { return handle ? cubejobs_fit_largest(&handle->fit) : empty(); }
+    std::uint64_t free_blocks(std::uint32_t k) const { return handle ? cubejobs_fit_free_blocks(&handle->fit, k) : 0; }
+    cubejobs_fit_occupancy_answer occupancy() const {
+        cubejobs_fit_occupancy_answer none = {CUBEJOBS_FIT_BAD_SIZE, 0, false, 0, {0}};
+        return handle ? cubejobs_fit_occupancy(&handle->fit) : none;
     }
 
   private:
     friend block;
     struct shared {
+        using opening = cubejobs_fit_code(cubejobs_fit *, void *, std::size_t, std::uint32_t);
+        shared(opening *call, void *memory, std::size_t size, std::uint32_t dim)
+            : opened(call(&fit, memory, size, dim)) {}
         explicit shared(std::uint32_t dim)
-            : bytes(new unsigned char[cubejobs_fit_bytes(dim) + 1]),
-              opened(cubejobs_fit_open(&fit, bytes.get(), cubejobs_fit_bytes(dim), dim)) {}
-        std::unique_ptr<unsigned char[]> bytes;
+            : own(new std::uint64_t[static_cast<std::size_t>(cubejobs_fit_bytes(dim)) / 8 + 1]),
+              opened(cubejobs_fit_open(&fit, own.get(), static_cast<std::size_t>(cubejobs_fit_bytes(dim)), dim)) {}
+        std::unique_ptr<std::uint64_t[]> own = {};
         cubejobs_fit fit = {nullptr, 0};
-        cubejobs_code opened;
+        cubejobs_fit_code opened;
     };
     struct place {};
-    using answer = cubejobs_answer;
-    static answer nothing() { return {CUBEJOBS_NOTHING_HELD, 0, 0}; }
+    using answer = cubejobs_fit_answer;
+    static answer nothing() { return {CUBEJOBS_FIT_NOTHING_HELD, 0, 0}; }
+    static answer empty() { return {CUBEJOBS_FIT_BAD_SIZE, 0, 0}; }
     static void release(shared &machine, place, answer taken) {
         cubejobs_fit_release(&machine.fit, taken.base, taken.dim);
     }
+    explicit first_fit(std::shared_ptr<shared> made) : handle(std::move(made)) {
+        const std::uint32_t opened = handle->opened;
+        if (opened) {
+            handle.reset();
+            reason = opened;
+        }
+        check(opened);
+    }
+    block filled(answer taken) {
+        block made;
+        made.taken = taken;
+        if (!taken.code) made.handle = handle;
+        return made;
+    }
     std::shared_ptr<shared> handle;
-    std::uint32_t reason = CUBEJOBS_DONE;
+    std::uint32_t reason = CUBEJOBS_FIT_BAD_SIZE;
 };
 
 /* Files that let workers sleep, and files that do not, have types of their own. */

@@ -2,7 +2,8 @@
  *
  * Each header has an enum of the codes of its own calls. They all share one row of numbers: a code
  * that two headers have is the same number in both, and a number has one meaning. So one function
- * has the text of each code. The numbers 30 and 45 to 49 are not in use.
+ * has the text of each code. The numbers 30, 45 to 49, 52 to 54 and 60 are not
+ * in use.
  */
 #ifndef CUBEJOBS_CODES_H
 #define CUBEJOBS_CODES_H
@@ -86,17 +87,13 @@ CUBEJOBS_INLINE const char *cubejobs_code_text(uint32_t code) {
     case 42: return "other calls were in the way: call again";
     case 43: return "there is no job: park the thread";
     case 44: return "the worker lies down";
-    case 50: return "the header is not the library's, or the memory is too small";
-    case 51: return "a byte of the machine is neither 0 nor 1";
-    case 52: return "there is no station with this number";
-    case 53: return "the station holds a block";
-    case 54: return "every station holds a block";
+    case 50: return "the memory is too small, null, or not at a multiple of 8";
+    case 51: return "the bytes are not a sound image of this dimension";
     case 55: return "no shape of messages has this number";
     case 56: return "the root is not below the number of ranks";
     case 57: return "the rank is not below the number of ranks";
     case 58: return "the round is not below the number of rounds";
     case 59: return "the number is not below the number of messages";
-    case 60: return "no block of this dimension is free, or the given one is not";
     case 61: return "the deadline passed";
     case 62: return "the waits of this event were stopped";
     case 63: return "the handle is a copy, and its block or machine was given back";

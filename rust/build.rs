@@ -1,4 +1,4 @@
-//! Links the proved libraries: `libcubejobs_c.a` and `libcubejobs_rounds.a`, and for the features
+//! Links the proved libraries: `libcubejobs_fit.a` and `libcubejobs_rounds.a`, and for the features
 //! `dispatch` and `regions` one more each. They are in the folder that `CUBEJOBS_LIB` names, or else
 //! in `lib/`, which has copies of the files of `release/`: `lib/aarch64` those for aarch64. With the
 //! feature `source`, for another target, and for aarch64 without files for it, it links nothing.
@@ -49,7 +49,7 @@ fn link() -> Result<(), String> {
     };
     let dispatch = env::var_os("CARGO_FEATURE_DISPATCH").map(|_| "libcubejobs_dispatch.a");
     let regions = env::var_os("CARGO_FEATURE_REGIONS").map(|_| "libcubejobs_regions.a");
-    for name in ["libcubejobs_c.a", "libcubejobs_rounds.a"].into_iter().chain(dispatch).chain(regions) {
+    for name in ["libcubejobs_fit.a", "libcubejobs_rounds.a"].into_iter().chain(dispatch).chain(regions) {
         let library = folder.join(name);
         println!("cargo::rerun-if-changed={}", library.display());
         if !library.exists() {

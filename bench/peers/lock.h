@@ -1,4 +1,5 @@
-/* The lock of the allocators that have one: a pthread mutex, or with -DSPIN a spin lock that yields after 64 tries. */
+/* The lock of the allocators that have one: a pthread mutex, or with -DSPIN a spin lock that yields after 64 tries. With
+ * -DALONE there is one thread, and no lock. */
 #ifndef LOCK_H
 #define LOCK_H
 
@@ -6,7 +7,13 @@
 #include <sched.h>
 #include <stdatomic.h>
 
-#ifdef SPIN
+#if defined(ALONE)
+
+static void lock(void) {}
+
+static void unlock(void) {}
+
+#elif defined(SPIN)
 
 static struct {
     _Alignas(64) atomic_int taken;

@@ -114,12 +114,12 @@ def must_be_as_here(folder, built, words):
 
 def programs():
     """Yields C programs over the libraries, which must end well."""
-    exact, dispatch, rounds, regions = archive.LIBRARIES
-    for name, library, words in (("ffi", exact, ["2000"]), ("fit", exact, ["2000"]), ("rounds", rounds, []),
+    fit, dispatch, rounds, regions = archive.LIBRARIES
+    for name, library, words in (("fit", fit, ["2000", "1000"]), ("rounds", rounds, []),
                                  ("regions", regions, ["500"]), ("wait", regions, ["100"]), ("lanes", dispatch, ["500"]),
                                  ("dispatch", dispatch, ["500"]), ("asleep", dispatch, ["300"]), ("jobs", dispatch, ["2000"])):
         yield ffi.Program(ffi.CALLS(name), [library], C, (), words, [EMULATOR])
-    for name, library in (("subcubes", exact), ("fit", exact), ("rounds", rounds), ("regions", regions),
+    for name, library in (("fit", fit), ("rounds", rounds), ("regions", regions),
                           ("arena", regions), ("wait", regions), ("lanes", dispatch)):
         yield ffi.Program(f"examples/{name}.c", [library], C, (), (), [EMULATOR], f"examples/{name}.out")
     yield ffi.Program("examples/jobs.cpp", [dispatch], CXX, (), (), [EMULATOR], "examples/jobs.out")

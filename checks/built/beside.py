@@ -52,7 +52,7 @@ console.log(BigInt.asUintN(64, instance.exports.selftest()).toString());"""
 
 # The driver, what it uses, and how many steps its interpreter makes at most.
 DRIVER, STEPS = "checks/built/driver", 5 * 10**9
-USED = "bitmap_occupancy bitmap_tree collectives cube_shape cubejobs_c job_lanes rank_steps region_shop wake_calls"
+USED = "bitmap_occupancy bitmap_tree collectives cube_shape cubejobs_fit fit_tree job_lanes rank_steps region_shop wake_calls"
 
 
 class Slip(NamedTuple):
@@ -75,17 +75,15 @@ SLIPS = (
     Slip("a mask is one bit short", "bitmap_tree/mask.rs", "(64 - (1u32 << k))) << offset",
          "(64 - (1u32 << k))) << offset >> (k / 5)"),
     Slip("a search forgets where it begins", "bitmap_tree/marks.rs", "words & (u64::MAX << (from % 64))", "words"),
-    Slip("a block is one bit too long", "region_bits/bits.rs", "start + (1 << region.dim))",
-         "start + (1 << region.dim) + (region.dim as usize >> 3))"),
+    Slip("a descent goes right too soon", "fit_tree/walks.rs", "if rooms[node] < least {", "if rooms[node] <= least {"),
+    Slip("a full block is released", "fit_tree/image.rs", "let held = rooms[node] == 0;", "let held = rooms[node] <= 1;"),
     Slip("a lane takes a job more", "job_lanes/submits.rs", "count - taken < self.plan", "count - taken <= self.plan"),
     Slip("a worker that sleeps is not noticed", "wake_calls/steps.rs", "SEARCH {\n        return Noticed",
          "1 {\n        return Noticed"),
     Slip("a passed job does not age", "region_shop/ageing.rs", "        word + 1\n    } else {\n        word\n",
          "        word\n    } else {\n        word\n"),
     Slip("a shared lane is not given back", "cubejobs_dispatch/share.rs", "        self.let_go();\n", ""),
-    Slip("a station too many", "cubejobs_c/regions.rs",
-         "if station >= MAX_STATIONS {\n        return refused(BAD_STATION);\n    }\n    if",
-         "if station > MAX_STATIONS {\n        return refused(BAD_STATION);\n    }\n    if"),
+    Slip("the whole machine is refused", "cubejobs_fit/faults.rs", "fault == DONE && k > n", "fault == DONE && k >= n"),
 )
 
 # Those that the driver must see. It does not call what the others are in, or has one thread, which does not meet them.

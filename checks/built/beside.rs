@@ -7,10 +7,10 @@ extern crate alloc;
 
 #[path = "../../rust/src/dispatch_ffi.rs"]
 mod dispatch_ffi;
-#[path = "../../rust/src/ffi.rs"]
-mod ffi;
 #[path = "../../rust/src/fit_ffi.rs"]
 mod fit_ffi;
+#[path = "../../rust/src/over/fit_ffi.rs"]
+mod fit_over;
 #[path = "../../rust/src/place.rs"]
 mod place;
 #[path = "../../rust/src/region.rs"]
@@ -29,9 +29,7 @@ use region::Region;
 use source::bitmap_tree::HiddenSeat;
 use source::kit::alloc::Global;
 use source::kit::opaque::Opaque;
-use source::{
-    cubejobs_c as exact, cubejobs_dispatch as jobs, cubejobs_regions as blocks, cubejobs_rounds as rounds,
-};
+use source::{cubejobs_dispatch as jobs, cubejobs_regions as blocks, cubejobs_rounds as rounds};
 
 /// Random numbers, by splitmix64.
 struct Dice(u64);
@@ -73,102 +71,106 @@ macro_rules! same {
     }};
 }
 
-/// Calls the exact allocator.
-fn call_exact(dice: &mut Dice, calls: u64) {
-    let mut done = 0;
-    while done < calls {
-        let n = dice.small(15);
-        let mut one = ffi::open(n);
-        let nothing = exact::Slot { base: 0, dim: 0, held: false };
-        let (bits, slots) = ([false; 1 << ffi::MAX_DIM], [nothing; ffi::MAX_STATIONS]);
-        let mut other = exact::Machine { dim: 0, bits, slots };
-        let code = exact::cubejobs_open_sized(&mut other, exact::MACHINE_BYTES, n);
-        assert_eq!(one.is_some(), code == ffi::DONE, "an open of dimension {n}");
-        done += 1;
-        let Some(one) = &mut one else { continue };
-        for _ in 0..dice.below(4000) {
-            exact_call(dice, n, one, &mut other);
-            done += 1;
-        }
+/// Memory of an image, at a multiple of 8.
+struct Memory(Vec<u64>);
+
+impl Memory {
+    /// Returns the first bytes.
+    fn bytes(&mut self, count: usize) -> &mut [u8] {
+        assert!(count <= 8 * self.0.len());
+        // SAFETY: the words have that many bytes, and any eight bytes are a word.
+        unsafe { core::slice::from_raw_parts_mut(self.0.as_mut_ptr().cast(), count) }
     }
 }
 
-fn exact_call(dice: &mut Dice, n: u32, one: &mut ffi::Machine, other: &mut exact::Machine) {
-    let (station, k) = (dice.small(50), dice.small(n + 2));
-    let base = dice.below(1 << n) >> k.min(n) << k.min(n) | u64::from(dice.below(8) == 0);
-    match dice.below(10) {
-        0..=2 => {
-            same!("take", one.take(station, k), exact::cubejobs_take(other, station, k), code, dim, base)
-        }
-        3 => same!("take_any", one.take_any(k), exact::cubejobs_take_any(other, k), code, station, dim, base),
-        4 => {
-            let answer = exact::cubejobs_take_region(other, station, base, k);
-            same!("take_region", one.take_region(station, base, k), answer, code, dim, base)
-        }
-        5 => same!("region", one.region(station), exact::cubejobs_region(other, station), code, dim, base),
-        6 => same!("free_regions", one.free_regions(k), exact::cubejobs_free_regions(other, k)) as u32,
-        7 => same!("holder", one.holder(base), exact::cubejobs_holder(other, base), station, found),
-        8 => same!("is_wholly_free", one.is_wholly_free(), exact::cubejobs_is_wholly_free(other)).into(),
-        _ => same!("release", one.release(station), exact::cubejobs_release(other, station), code, dim, base),
-    };
-}
-
-/// Calls first fit over bits of the caller.
+/// Calls first fit, over images and over bytes that are none.
 fn call_fit(dice: &mut Dice, calls: u64) {
     let mut done = 0;
     while done < calls {
-        let n = dice.small(12);
-        let mut one = vec![false; (1 << n) + dice.place(3)];
-        let mut bytes = vec![7; one.len()];
-        let opened = exact::cubejobs_bits_open(&mut bytes, n);
-        same!("bits_open", fit_ffi::open(&mut one, n), opened);
-        let mut other: Vec<bool> = bytes.iter().take(1 << n).map(|byte| *byte != 0).collect();
-        other.resize(one.len(), false);
+        let n = dice.small(13);
+        let bytes = fit_over::HEAD_BYTES + (2 << n);
+        let mut one = Memory((0..bytes.div_ceil(8)).map(|_| dice.next()).collect());
+        let mut other = Memory(one.0.clone());
+        let (one, other) = (one.bytes(bytes), other.bytes(bytes));
+        if dice.below(8) > 0 {
+            same!("open", fit_ffi::open(one, n), fit_over::open(other, n));
+        }
         for _ in 0..dice.below(2000) {
-            fit_call(dice, n, &mut one, &mut other);
-            assert!(done % 64 != 0 || one == other, "the bits differ");
+            // Sometimes a dimension that needs more bytes or fewer, or that no machine has.
+            let n = if dice.below(50) == 0 { dice.small(24) } else { n };
+            if dice.below(2) == 0 {
+                fit_change(dice, n, one, other);
+            } else {
+                fit_look(dice, n, one, other);
+            }
+            assert!(done % 64 != 0 || one == other, "the images differ");
             done += 1;
         }
     }
 }
 
-fn fit_call(dice: &mut Dice, n: u32, one: &mut [bool], other: &mut [bool]) {
-    // Sometimes a dimension that is too large, for the bits or for any machine.
-    let n = if dice.below(50) == 0 { n + 3 + dice.small(12) } else { n };
-    let k = dice.small(n.min(12) + 2);
-    let base = dice.below(1 << n.min(12)) >> k << k | u64::from(dice.below(16) == 0);
-    match dice.below(8) {
-        0..=2 => same!(
-            "bits_take",
-            fit_ffi::take(one, n, k),
-            exact::cubejobs_bits_take(other, n, k),
-            code,
-            dim,
-            base
-        ),
+/// Returns a base and a dimension: often of a held block, and sometimes of no block.
+fn some_block(dice: &mut Dice, n: u32, image: &[u8]) -> (u64, u32) {
+    let n = n.min(fit_ffi::MAX_DIM);
+    let held = fit_ffi::block_with(image, n, dice.below(1 << n));
+    if held.code == fit_ffi::DONE && dice.below(4) > 0 {
+        return (held.base, held.dim);
+    }
+    let k = dice.small(n + 2);
+    (dice.below(2 << n) >> k << k | u64::from(dice.below(16) == 0), k)
+}
+
+/// Makes a call that may change an image, or changes a byte of it.
+fn fit_change(dice: &mut Dice, n: u32, one: &mut [u8], other: &mut [u8]) {
+    let ((base, k), less) = (some_block(dice, n, one), dice.small(n + 2));
+    match dice.below(200) {
+        0 => same!("open", fit_ffi::open(one, n), fit_over::open(other, n)),
+        1 | 2 => same!("repair", fit_ffi::repair(one, n), fit_over::repair(other, n)),
         3 => {
-            let answer = exact::cubejobs_bits_take_region(other, n, base, k);
-            same!("bits_take_region", fit_ffi::take_region(one, n, base, k), answer, code, dim, base)
+            let (at, byte) = (dice.place(one.len()), dice.small(24) as u8);
+            (one[at], other[at]) = (byte, byte);
+            0
+        }
+        4..=79 => {
+            let k = less.min(dice.small(n + 2));
+            same!("take", fit_ffi::take(one, n, k), fit_over::take(other, n, k), code, dim, base)
+        }
+        80..=89 => {
+            let answer = fit_over::take_at(other, n, base, k);
+            same!("take_at", fit_ffi::take_at(one, n, base, k), answer, code, dim, base)
+        }
+        90..=149 => same!("release", fit_ffi::release(one, n, base, k), fit_over::release(other, n, base, k)),
+        150..=179 => same!("split", fit_ffi::split(one, n, base, k), fit_over::split(other, n, base, k)),
+        _ => {
+            let (base, k) = (base >> (k + 1) << (k + 1), k + 1);
+            same!("join", fit_ffi::join(one, n, base, k), fit_over::join(other, n, base, k))
+        }
+    };
+}
+
+/// Makes a call that changes nothing.
+fn fit_look(dice: &mut Dice, n: u32, one: &[u8], other: &[u8]) {
+    let ((base, avoid), k) = (some_block(dice, n, one), dice.small(n + 2));
+    match dice.below(8) {
+        0 => same!("first", fit_ffi::first(one, n, k), fit_over::first(other, n, k), code, dim, base),
+        1 | 2 => {
+            let answer = fit_over::first_apart(other, n, k, base, avoid);
+            same!("first_apart", fit_ffi::first_apart(one, n, k, base, avoid), answer, code, dim, base)
+        }
+        3 => {
+            let answer = fit_over::block_with(other, n, base);
+            same!("block_with", fit_ffi::block_with(one, n, base), answer, code, dim, base)
         }
         4 => {
-            let is_free = exact::cubejobs_bits_is_free(other, n, base, k);
-            same!("bits_is_free", fit_ffi::is_free(one, n, base, k), is_free).into()
+            let is_free = fit_over::is_free(other, n, base, avoid);
+            same!("is_free", fit_ffi::is_free(one, n, base, avoid), is_free).into()
         }
-        5 => {
-            let free = exact::cubejobs_bits_free_regions(other, n, k);
-            same!("bits_free_regions", fit_ffi::free_regions(one, n, k), free) as u32
-        }
-        6 => same!(
-            "bits_largest",
-            fit_ffi::largest(one, n),
-            exact::cubejobs_bits_largest(other, n),
-            code,
-            dim,
-            base
-        ),
+        5 => same!("largest", fit_ffi::largest(one, n), fit_over::largest(other, n), code, dim, base),
+        6 => same!("free_blocks", fit_ffi::free_blocks(one, n, k), fit_over::free_blocks(other, n, k)) as u32,
         _ => {
-            let code = exact::cubejobs_bits_release(other, n, base, k);
-            same!("bits_release", fit_ffi::release(one, n, base, k), code)
+            same!("check", fit_ffi::check(one, n), fit_over::check(other, n));
+            let (one, other) = (fit_ffi::occupancy(one, n), fit_over::occupancy(other, n));
+            same!("occupancy", one, other, code, largest, has_free, held, free)
         }
     };
 }
@@ -544,7 +546,6 @@ fn end_shop(it: &mut Shop) {
 fn main() {
     let calls = std::env::args().nth(1).and_then(|word| word.parse().ok()).expect("beside CALLS");
     let mut dice = Dice(1);
-    call_exact(&mut dice, calls);
     call_fit(&mut dice, calls);
     call_rounds(&mut dice, calls);
     call_regions(&mut dice, calls);

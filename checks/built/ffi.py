@@ -2,21 +2,21 @@
 races), from C++ and from Rust.
 
 Of the rounds of collectives: each step and message on up to 128 ranks, beside the textbook's rules, and the results that
-they give. Commands are pinned to blocks of CPUs. Of the exact allocator: 100,000 random calls on a machine of each dimension, beside a plain model; and as many of first
-fit over the caller's own bytes, which processes share and which stand in a file. Of the regions with no lock: each code
-where it must come, handles that are shut, foreign or of the wrong kind, eight threads with a table of counters and with
-plain memory that blocks guard, and each request for memory refused in turn. Threads release blocks of others, and wait
-for blocks, and so do processes that share memory. Of the lanes: the same, beside lists. Sixteen producers pass jobs to
-eight workers, by lanes and by a dispatcher. Workers sleep, also in scripted orders of threads. Wrong libraries, and
+they give. Commands are pinned to blocks of CPUs. Of exact first fit: 100,000 random calls on each of 13 machines, beside
+a plain model; each call over random bytes; and processes that are killed inside a call. Of the regions with no lock: each
+code where it must come, handles that are shut, foreign or of the wrong kind, eight threads with a table of counters and
+with plain memory that blocks guard, and each request for memory refused in turn. Threads release blocks of others, and
+wait for blocks, and so do processes that share memory. Of the lanes: the same, beside lists. Sixteen producers pass jobs
+to eight workers, by lanes and by a dispatcher. Workers sleep, also in scripted orders of threads. Wrong libraries, and
 headers with a fault, must be seen. The examples are built and run. A language whose compiler is not there is skipped.
 
 The libraries of plain Rust (`rust/c`) are called too, in the gate by the plainest programs.
 
 `checks/run ffi [--after-gate] [--libraries FOLDER] [--source] [--long] [--seconds N] [--only WORD]`. With `--source` it
 calls only the libraries of plain Rust, by all programs. With `--libraries` it takes the archives of a folder, and builds
-none. With `--after-gate` it takes the libraries below as `rt ci` has just left them. With `--long` it makes more than 10^7 calls of the exact allocator, 10^8 takes of the regions,
-and passes 10^7 jobs. Regions and jobs run under each sanitizer for N seconds each, or half an hour. With `--only` it runs
-the rows whose names have the word.
+none. With `--after-gate` it takes the libraries below as `rt ci` has just left them. With `--long` it makes more than
+10^7 calls of first fit and 1,000 kills, 10^8 takes of the regions, and passes 10^7 jobs. Regions and jobs run under each
+sanitizer for N seconds each, or half an hour. With `--only` it runs the rows whose names have the word.
 """
 import os
 import shutil
@@ -30,11 +30,11 @@ from checks.lib.repository import files_below, path, read
 from checks.lib.rows import Row, Skipped, answer, must, put, run_rows
 from checks.lib.toolchain import AFTER_GATE, FOR_ANY
 
-EXACT, DISPATCH, ROUNDS, REGIONS = archive.LIBRARIES
+FIT, DISPATCH, ROUNDS, REGIONS = archive.LIBRARIES
 OF_REGIONS = ("cube_shape", "region_bits", "bitmap_tree", "bitmap_occupancy", "hidden_box")
 OF_ROUNDS = ("collectives", "cube_shape", "rank_steps")
 OF_DISPATCH = ("bitmap_tree", "hidden_box", "job_lanes", "kept_places", "region_shop", "shop_owner")
-BELOW = {EXACT: ("cube_shape", "region_bits"), DISPATCH: OF_DISPATCH, REGIONS: OF_REGIONS, ROUNDS: OF_ROUNDS}
+BELOW = {FIT: ("cube_shape", "fit_tree", "region_bits"), DISPATCH: OF_DISPATCH, REGIONS: OF_REGIONS, ROUNDS: OF_ROUNDS}
 # What the names of rows begin with that look into archives.
 OF_ARCHIVES = ("names of its own", "the Rust package")
 LONGER, SECONDS, HALF_AN_HOUR = 100, 7200, 1800
@@ -132,12 +132,34 @@ WRONG = (
 def programs(longer):
     """Yields the programs that must end well."""
     for compiler in (CHECKED, CXX):
-        for name in ("ffi", "fit"):
-            yield Program(CALLS(name), [EXACT], compiler, words=[str(100_000 * min(longer, 10))])
-        for name in ("subcubes", "fit"):
-            yield Program(f"examples/{name}.c", [EXACT], compiler, shown=f"examples/{name}.out")
+        yield Program(CALLS("fit"), [FIT], compiler, words=[str(100_000 * min(longer, 10))])
+        yield Program("checks/built/fit_kills.c", [FIT], compiler, words=["1000", "20000"] if longer > 1 else [])
+        yield Program("examples/fit.c", [FIT], compiler, shown="examples/fit.out")
         yield Program(CALLS("rounds"), [ROUNDS], compiler)
         yield Program("examples/rounds.c", [ROUNDS], compiler, shown="examples/rounds.out")
+
+
+WRAPPED_FIT = ",".join(f"--wrap=cubejobs_image_{it}" for it in ("take", "release", "split", "join", "repair", "check"))
+# What is wrong with a library of first fit, the program that sees it, and what that says.
+WRONG_FIT = (
+    ("a take gives the second fit", CALLS("fit"), b": take"),
+    ("a release of a part succeeds", CALLS("fit"), b": release"),
+    ("a split loses a half", CALLS("fit"), b"fit_calls.c:"),
+    ("a repair does nothing", CALLS("fit"), b"the image after a repair"),
+    ("a repair of what a process has left does nothing", "checks/built/fit_kills.c", b"happened in part"),
+    ("an attach accepts each image", CALLS("fit"), b"attach accepts"),
+    ("a count is not updated", CALLS("fit"), b"free blocks"),
+    ("a split holds nothing for a moment", "checks/built/fit_kills.c", b"happened in part"),
+    ("a join holds nothing for a moment", "checks/built/fit_kills.c", b"happened in part"),
+)
+
+
+def rows_of_fit(room):
+    """Yields the wrong libraries of first fit, which the programs must see."""
+    for number, (what, source, said) in enumerate(WRONG_FIT, 1):
+        shim = [f"-DWRONG={number}", "-xc", path("checks/built/wrong_fit.c"), "-xnone", f"-Wl,{WRAPPED_FIT}"]
+        words = ["2000", "500"] if source == CALLS("fit") else []
+        yield Row(what, must_be_seen, (room, Program(source, [FIT], C, shim, words), said))
 
 
 # The compilers and tools that watch a program.
@@ -171,7 +193,7 @@ def programs_of_regions(longer, seconds):
         yield Program(f"examples/{name}.c", [REGIONS], shown=f"examples/{name}.out")
     for compiler in (CHECKED, [*C, CONDITION]):
         yield Program("checks/built/wait_order.c", [REGIONS], compiler)
-    yield Program("examples/blocks.cpp", [REGIONS, EXACT], CXX, shown="examples/blocks.out")
+    yield Program("examples/blocks.cpp", [REGIONS, FIT], CXX, shown="examples/blocks.out")
     yield Program(CALLS("arena"), [REGIONS])
 
 
@@ -239,7 +261,7 @@ def rows_of_owners(room, longer):
     """Yields the owners of C++, the workers that sleep, and the batch scheduler."""
     for compiler in ([*CXX, *ADDRESSES], CXX_17, [*CXX_20, *ADDRESSES], CLANG_20, RACES_20):
         placed, name = PLACED if compiler is RACES_20 else (), "checks/built/owners_calls.cpp"
-        program = Program(name, [REGIONS, EXACT, DISPATCH], [*compiler, MOVES], placed=placed)
+        program = Program(name, [REGIONS, FIT, DISPATCH], [*compiler, MOVES], placed=placed)
         yield Row(" ".join([name, "by", *placed, *compiler]), must_run, (room, program))
         program = Program("checks/built/owners_codes.cpp", program.libraries, [*compiler, "-fno-exceptions"], placed=placed)
         yield Row(" ".join([program.source, "by", *placed, *program.compiler]), must_run, (room, program))
@@ -320,16 +342,17 @@ def rows(room, longer, seconds):
     yield from rows_of_crowds(room, longer, seconds)
     yield from rows_of_waits(room)
     yield from rows_of_owners(room, longer)
-    yield from misuse.rows(room, *(f"{room}/lib{it}.a" for it in (REGIONS, DISPATCH, EXACT)))
+    yield from misuse.rows(room, *(f"{room}/lib{it}.a" for it in (REGIONS, DISPATCH, FIT)))
     for compiler in (CHECKED, [*CLANG[:2], "-xc"]):
-        program = Program("examples/pinjobs.c", [EXACT], compiler)
+        program = Program("examples/pinjobs.c", [FIT], compiler)
         yield Row(f"{program.source} by {' '.join(compiler)}", pinjobs.must_work, (room, program))
     for what, old, new in pinjobs.WRONG_PROGRAMS:
-        yield Row(f"{what}: it is seen", pinjobs.must_see, (room, Program("examples/pinjobs.c", [EXACT], C), old, new))
+        yield Row(f"{what}: it is seen", pinjobs.must_see, (room, Program("examples/pinjobs.c", [FIT], C), old, new))
     for program in programs(longer):
         yield Row(f"{program.source} by {' '.join(program.compiler)}", must_run, (room, program))
+    yield from rows_of_fit(room)
     # A library keeps its names to itself: it is linked whole beside the other one, and beside a program's own names.
-    for whole in ([EXACT, DISPATCH, ROUNDS, REGIONS], [REGIONS, ROUNDS, DISPATCH, EXACT], []):
+    for whole in ([FIT, DISPATCH, ROUNDS, REGIONS], [REGIONS, ROUNDS, DISPATCH, FIT], []):
         both = ["-Wl,--whole-archive", *whole, "-Wl,--no-whole-archive"] if whole else [REGIONS]
         names = Program("examples/regions.c", both, C, ["-xc", f"{room}/own.c", "-xnone"], shown="examples/regions.out")
         yield Row(f"names of its own, and {' and '.join(whole) or REGIONS}", must_run, (room, names))

@@ -57,9 +57,9 @@ batch() {
     ended=$1
 }
 
-libraries='libcubejobs_c.a libcubejobs_rounds.a libcubejobs_dispatch.a libcubejobs_regions.a'
+libraries='libcubejobs_fit.a libcubejobs_rounds.a libcubejobs_dispatch.a libcubejobs_regions.a'
 jobs='40 jobs ran on 248 processors in all'
-subcubes='0 4, then: no free subcube of this dimension'
+first_fit='0..2 4..8, then: a part of each block of this dimension is in use'
 groups='3000 jobs on groups of 16 workers'
 blocks='4000 blocks with 24800 processors in all'
 global_alloc='59452000 bytes in vectors, and each had one owner'
@@ -74,7 +74,7 @@ else
     echo "ffi: no clippy here"
 fi
 quiet cargo doc --offline --no-deps
-shows "$subcubes" cargo run --quiet --offline --example subcubes
+shows "$first_fit" cargo run --quiet --offline --example first_fit
 shows "$groups" cargo run --quiet --offline --example groups
 shows "$blocks" cargo run --quiet --offline --example blocks
 shows "$global_alloc" cargo run --quiet --offline --example global_alloc
@@ -115,7 +115,7 @@ done
 aarch64="env -u CUBEJOBS_LIB CARGO_MANIFEST_DIR=$work/some CARGO_CFG_TARGET_OS=linux CARGO_CFG_TARGET_ARCH=aarch64"
 shows "cargo::rerun-if-changed=$work/some/lib" $aarch64 "$work/script"
 mkdir -p "$work/some/lib/aarch64"
-refused "there is no $work/some/lib/aarch64/libcubejobs_c.a: .*" $aarch64 "$work/script"
+refused "there is no $work/some/lib/aarch64/libcubejobs_fit.a: .*" $aarch64 "$work/script"
 cp -- "$work/some/"*.a "$work/some/lib/aarch64"
 shows 'cargo::rustc-cfg=cubejobs_archives' $aarch64 "$work/script"
 echo "ffi: a Rust program names the package by its path; a missing library is one sentence"
@@ -132,7 +132,7 @@ if cargo clippy --version > "$work/log" 2>&1; then
     quiet cargo clippy --offline -p cubejobs-c
 fi
 quiet cargo doc --offline --no-deps --features source
-shows "$subcubes" cargo run --quiet --offline --features source --example subcubes
+shows "$first_fit" cargo run --quiet --offline --features source --example first_fit
 shows "$groups" cargo run --quiet --offline --features source --example groups
 shows "$blocks" cargo run --quiet --offline --features source --example blocks
 shows "$global_alloc" cargo run --quiet --offline --features source --example global_alloc
@@ -157,7 +157,7 @@ done
 cd "$work"/cubejobs-*
 rm -r -- "$CARGO_TARGET_DIR"
 export CARGO_TARGET_DIR="$work/unpacked"
-shows "$subcubes" cargo run --quiet --offline --example subcubes
+shows "$first_fit" cargo run --quiet --offline --example first_fit
 shows "$groups" cargo run --quiet --offline --example groups
 shows "$jobs" cargo run --quiet --offline --example jobs
 rm -r lib

@@ -15,7 +15,7 @@ from typing import NamedTuple
 from checks.lib.repository import path, read, write
 from checks.lib.rows import Row, Skipped, answer, must, run_rows
 
-NAMES = ("cubejobs.h", "cubejobs_codes.h", "cubejobs_dispatch.h", "cubejobs_regions.h", "cubejobs_rounds.h")
+NAMES = ("cubejobs.h", "cubejobs_codes.h", "cubejobs_dispatch.h", "cubejobs_fit.h", "cubejobs_regions.h", "cubejobs_rounds.h")
 # Headers that begin with a later standard, and those in which they have no part.
 LATER = {"cubejobs_wait.h": ("c89", "c99", "c++98"), "cubejobs.hpp": ("c89", "c99", "c11", "c17", "c2x", "c++98")}
 NOWHERE = ["-o", "/dev/null"]
@@ -39,7 +39,8 @@ class Call(NamedTuple):
     code: str = ""
 
 
-REGIONS, LANES = "cubejobs_regions.h", "cubejobs_dispatch.h"
+REGIONS, LANES, FIT = "cubejobs_regions.h", "cubejobs_dispatch.h", "cubejobs_fit.h"
+OF_FIT = "struct cubejobs_fit fit; (void)&fit"
 OF_REGIONS = "struct cubejobs_regions one, other; static struct cubejobs_block block, half; (void)&other; (void)&half; (void)&block"
 OF_LANES = "struct cubejobs_lanes lanes; static struct cubejobs_lane lane; static struct cubejobs_worker worker; static struct "
 OF_LANES += "cubejobs_shared_lane shared, more; (void)&lanes; (void)&lane; (void)&worker; (void)&shared; (void)&more"
@@ -59,12 +60,16 @@ CALLS = (
     Call(LANES, OF_LANES, "cubejobs_lanes_submit(&lane, 1, 0)", ".code"),
     Call(LANES, OF_LANES, "cubejobs_lanes_submit_shared(&shared, 1, 0)", ".code"),
     Call(LANES, OF_LANES, "cubejobs_lanes_take_any(&worker, 0)", ".code"),
-    Call("cubejobs.h", "struct cubejobs_fit fit; (void)&fit", "cubejobs_fit_open(&fit, 0, 0, 3)"),
-    Call("cubejobs.h", "struct cubejobs_fit fit; (void)&fit", "cubejobs_fit_take(&fit, 1)", ".code"),
+    *(Call(FIT, OF_FIT, f"cubejobs_fit_{it}(&fit, 0, 0, 3)") for it in ("open", "attach", "repair")),
+    Call(FIT, OF_FIT, "cubejobs_fit_take(&fit, 1)", ".code"),
+    Call(FIT, OF_FIT, "cubejobs_fit_take_at(&fit, 2, 1)", ".code"),
+    Call(FIT, OF_FIT, "cubejobs_fit_split(&fit, 2, 1)"),
+    Call(FIT, OF_FIT, "cubejobs_fit_join(&fit, 2, 1)"),
 )
 # Each header with an enum of codes: what has one, and how it is read.
 KINDS = (
-    ("cubejobs.h", "cubejobs_code", ("struct cubejobs_answer", "it.code")),
+    (FIT, "cubejobs_fit_code", ("struct cubejobs_fit_answer", "it.code")),
+    (FIT, "cubejobs_fit_code", ("struct cubejobs_fit_occupancy_answer", "it.code")),
     (REGIONS, "cubejobs_regions_code", ("struct cubejobs_regions_answer", "cubejobs_regions_code_of(it)")),
     (REGIONS, "cubejobs_regions_code", ("struct cubejobs_regions_occupancy_answer", "it.code")),
     (LANES, "cubejobs_dispatch_code", ("struct cubejobs_submit_answer", "it.code")),

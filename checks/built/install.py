@@ -22,12 +22,12 @@ from checks.lib.rows import AS_NOBODY, Row, Skipped, answer, must, output, put, 
 from checks.source import version
 
 # The examples in C and C++ that end by themselves, with the words that they need. Their output is beside them.
-EXAMPLES = ("arena.c", "blocks.cpp", "fit.c", "jobs.cpp", "lanes.c", "regions.c", "rounds.c", "subcubes.c", "wait.c")
+EXAMPLES = ("arena.c", "blocks.cpp", "fit.c", "jobs.cpp", "lanes.c", "regions.c", "rounds.c", "wait.c")
 # The examples in Rust, with what each prints. In `blocks` there are 800 blocks each of 1, 2, 4, 8 and 16 processors, and
 # in `park` the payloads 1 to 10 are added up. In `global_alloc` each of 4 threads makes vectors of 1 + 7t mod 3000 bytes for
 # each t below 10,000.
 IN_RUST = {
-    "jobs": "40 jobs ran on 248 processors in all\n", "subcubes": "0 4, then: no free subcube of this dimension\n",
+    "jobs": "40 jobs ran on 248 processors in all\n", "first_fit": "0..2 4..8, then: a part of each block of this dimension is in use\n",
     "groups": "3000 jobs on groups of 16 workers\n", "blocks": "4000 blocks with 24800 processors in all\n",
     "park": "55\n", "batch": "40 jobs have ended, and 0 are left\n",
     "global_alloc": "59452000 bytes in vectors, and each had one owner\n"}
@@ -39,15 +39,15 @@ find_package(cubejobs REQUIRED)
 add_executable(regions regions.c)
 target_link_libraries(regions cubejobs::regions)
 add_executable(jobs jobs.cpp)
-target_link_libraries(jobs cubejobs::dispatch_static cubejobs::regions_static cubejobs::c_static)
+target_link_libraries(jobs cubejobs::dispatch_static cubejobs::regions_static cubejobs::fit_static)
 """
 # Words of find_package, and what CMake says where it finds nothing. Before a release, its version is not there yet.
 NUMBER, _, DEV = version.of_sources().partition("-")
 OTHER = "compatible with requested version"
 PACKAGES = (
     ("cubejobs", ""), (f"cubejobs {NUMBER} REQUIRED", DEV and OTHER), ("cubejobs 0.1 REQUIRED", OTHER),
-    ("cubejobs 99.0 REQUIRED", OTHER), ("cubejobs REQUIRED COMPONENTS c regions_static dispatch rounds", ""),
-    ("cubejobs REQUIRED COMPONENTS c nonsense", "cubejobs has no component nonsense, but c, regions, dispatch and rounds"),
+    ("cubejobs 99.0 REQUIRED", OTHER), ("cubejobs REQUIRED COMPONENTS fit regions_static dispatch rounds", ""),
+    ("cubejobs REQUIRED COMPONENTS fit nonsense", "cubejobs has no component nonsense, but fit, regions, dispatch and rounds"),
     ("cubejobs REQUIRED OPTIONAL_COMPONENTS nonsense", ""))
 # Versions, how pkg-config and CMake must compare them, and which requests of CMake they must serve or refuse.
 VERSIONS = (
@@ -62,14 +62,14 @@ VERSIONS = (
 # The files of each part, as patterns of their paths below the prefix: each file fits one, and each pattern has a file.
 DOC = r"share/doc/cubejobs"
 PARTS = {
-    "c": (r"include/cubejobs\w*\.(c|h|hpp)", r"lib/libcubejobs_(c|regions|dispatch|rounds)\.a",
-          r"lib/libcubejobs_(c|regions|dispatch|rounds)\.so(\.\d+\.\d+(\.\d+)?)?", r"lib/pkgconfig/cubejobs\w*\.pc",
+    "c": (r"include/cubejobs\w*\.(c|h|hpp)", r"lib/libcubejobs_(fit|regions|dispatch|rounds)\.a",
+          r"lib/libcubejobs_(fit|regions|dispatch|rounds)\.so(\.\d+\.\d+(\.\d+)?)?", r"lib/pkgconfig/cubejobs\w*\.pc",
           r"lib/cmake/cubejobs/cubejobs-config(-version)?\.cmake", r"share/man/man3/cubejobs_\w+\.3", rf"{DOC}/docs/C\.md",
           rf"{DOC}/examples/\w+\.c(pp)?", rf"{DOC}/examples/(?!processes)\w+\.out", rf"{DOC}/examples/batch\.jobs",
           rf"{DOC}/examples/mpi/\w+\.(c|md)"),
     "rust": (r"share/cubejobs/rust/.*", rf"{DOC}/docs/(RUST|SOURCE)\.md", rf"{DOC}/examples/batch\.jobs"),
     "python": (r"share/cubejobs/python/cubejobs/(\w+\.py|py\.typed)", rf"{DOC}/examples/processes\.(py|out)",
-               r"lib/libcubejobs_(c|regions)\.so\.\d+\.\d+(\.\d+)?"),
+               r"lib/libcubejobs_(fit|regions)\.so\.\d+\.\d+(\.\d+)?"),
     "program": (r"bin/cubejobs", r"share/man/man1/cubejobs\.1", r"share/cubejobs/index\.html",
                 r"share/bash-completion/completions/cubejobs", r"share/zsh/site-functions/_cubejobs",
                 r"share/fish/vendor_completions\.d/cubejobs\.fish", rf"{DOC}/docs/GUIDE\.md",
@@ -198,9 +198,9 @@ class Place:
         for file in ("cubejobs-config.cmake", "cubejobs-config-version.cmake"):
             must("of users" not in read(other, "lib/cmake/cubejobs", file), f"{file} has a path of the installation")
         env = {**os.environ, "PKG_CONFIG_PATH": f"{other}/lib/pkgconfig"}
-        said = output(["pkg-config", "--define-prefix", "--cflags", "--libs", "cubejobs_c"], env=env)
+        said = output(["pkg-config", "--define-prefix", "--cflags", "--libs", "cubejobs_fit"], env=env)
         said = said.replace("\\ ", " ")
-        must(said.split() == f"-I{other}/include -L{other}/lib -lcubejobs_c".split(), said)
+        must(said.split() == f"-I{other}/include -L{other}/lib -lcubejobs_fit".split(), said)
 
     def libraries_elsewhere(self):
         """The folder of the libraries may lie outside the prefix. A symbolic link may lead to it."""
@@ -223,12 +223,12 @@ class Place:
         finally:
             write(sums, before)
         file, number = f"{room}/p/lib/cmake/cubejobs/cubejobs-config-version.cmake", of.partition("-")[0]
-        said = read(room, "p/lib/pkgconfig/cubejobs_c.pc"), read(file)
+        said = read(room, "p/lib/pkgconfig/cubejobs_fit.pc"), read(file)
         must(f"\nVersion: {pkg_config}\n" in said[0], f"pkg-config has {said[0]}")
         must(said[1].startswith(f'set(PACKAGE_VERSION "{cmake}")\n'), f"CMake has {said[1][:60]}")
         needs("pkg-config", "cmake")
         env = {**os.environ, "PKG_CONFIG_PATH": f"{room}/p/lib/pkgconfig"}
-        status, _, _ = answer(["pkg-config", f"--atleast-version={number}", "cubejobs_c"], env=env)
+        status, _, _ = answer(["pkg-config", f"--atleast-version={number}", "cubejobs_fit"], env=env)
         must((status == 0) == (of == number), f"pkg-config takes {of} for {number}: {status == 0}")
         for wanted, is_served in [*((it, True) for it in served.split()), *((it, False) for it in refused.split())]:
             lines = f'set(PACKAGE_FIND_VERSION "{wanted}")\ninclude("{file}")\n'
@@ -431,7 +431,7 @@ class Place:
         """With --destdir the same files go below a folder, and name the prefix alone."""
         package = os.path.join(self.work, "package")
         self.must_install("--prefix", "/usr", "--libdir", "/usr/lib/64", "--pythondir", "/usr/lib/py", "--destdir", package)
-        must("package" not in read(package, "usr/lib/64/pkgconfig/cubejobs_c.pc"), "the package names the folder")
+        must("package" not in read(package, "usr/lib/64/pkgconfig/cubejobs_fit.pc"), "the package names the folder")
         must(os.path.exists(f"{package}/usr/lib/py/cubejobs/py.typed"), "the Python module is elsewhere")
         self.must_install("--prefix", "/usr", "--destdir", package, "--uninstall")
         must(not tree(package), f"these are left: {[*tree(package)][:5]}")
@@ -448,7 +448,7 @@ class Place:
             total = hashlib.sha256(b"for aarch64\n").hexdigest()
             write(f"{there}/SHA256SUMS", re.sub(r"\w{64}(?=  cubejobs\n)", total, read(f"{there}/SHA256SUMS")))
         self.must_install(*words)
-        for name, made in (("cubejobs", "bin/cubejobs"), ("libcubejobs_c.a", "lib/libcubejobs_c.a")):
+        for name, made in (("cubejobs", "bin/cubejobs"), ("libcubejobs_fit.a", "lib/libcubejobs_fit.a")):
             is_same = read_bytes(there, name) == read_bytes(package, "usr", made)
             must(is_same, f"{made} is not the file for aarch64")
         self.refusal(["--processor", "riscv64"], 1, "for Linux aarch64 and Linux x86_64, and this is Linux riscv64")
@@ -460,7 +460,7 @@ class Place:
         must((status, out) == (wanted, "") and saying in said, f"status {status}, {out!r}, {said!r}")
 
     def damaged(self):
-        target, file = os.path.join(self.work, "damaged"), os.path.join(self.clone, "release/linux-x86_64/libcubejobs_c.a")
+        target, file = os.path.join(self.work, "damaged"), os.path.join(self.clone, "release/linux-x86_64/libcubejobs_fit.a")
         with open(file, "r+b") as it:
             first = it.read(1)
             it.seek(0)

@@ -13,7 +13,7 @@ from checks.source import version
 
 # Each library: its header, and the other headers that belong to its page.
 LIBRARIES = {
-    "cubejobs_c": ("cubejobs.h", "first fit of aligned blocks"),
+    "cubejobs_fit": ("cubejobs_fit.h", "exact first fit of aligned blocks"),
     "cubejobs_regions": ("cubejobs_regions.h", "lock-free allocator of aligned blocks"),
     "cubejobs_dispatch": ("cubejobs_dispatch.h", "job lanes, and a dispatcher of jobs with blocks"),
     "cubejobs_rounds": ("cubejobs_rounds.h", "the messages of collectives"),
@@ -23,7 +23,7 @@ COMMENT = re.compile(r"/\*(.*?)\*/", re.S)
 # A comment, and after it the declarations up to the next blank line.
 ENTRY = re.compile(r"^/\*(?P<says>(?:(?!\*/).)*)\*/\n(?:#\w[^\n]*\n)*(?P<code>(?:(?!/\*|#)[^\n]+\n)+)", re.S | re.M)
 # What the headers keep for themselves: the calls that sanitizers see, and the parts of inline calls.
-INNER = re.compile(r"_(?:seen|acquired|node|unpark_all)$")
+INNER = re.compile(r"_(?:seen|acquired|node|unpark_all|head_of|rooms_of|count_of|place|set|no_memory)$")
 FUNCTION = re.compile(r"^(?!typedef|\s)[\w *]*?\b(cubejobs_\w+)\((?:[^;{]*)\)(?=;| \{)", re.M | re.S)
 
 

@@ -17,7 +17,7 @@ from checks.lib.rows import Row, Skipped, Wrong, answer, must, output, put, run_
 
 RELEASE, SOURCE = path("release", "linux-x86_64"), "examples/mpi/cubempi.c"
 DIM, JOBS, SECONDS = 3, 500, 60
-LIBRARIES = ("libcubejobs_c.a", "libcubejobs_rounds.a")
+LIBRARIES = ("libcubejobs_fit.a", "libcubejobs_rounds.a")
 STRICT = ["-std=c11", "-O2", "-Wall", "-Wextra", "-Werror", "-pedantic", f"-I{path('include')}"]
 # Open MPI refuses more ranks than cores, and the superuser, unless it is asked. Ranks that wait yield to others.
 OF_OPEN_MPI = ["--oversubscribe", "--allow-run-as-root"]
@@ -28,7 +28,7 @@ HEADER = "lane,kind,op,root,items\n"
 WRONG = (
     ("the root is ignored", "t->dim, t->root, me, round)", "t->dim, 0, me, round)"),
     ("each job gets the first block", "(block = cubejobs_fit_take(&fit, k))",
-     "(block = (struct cubejobs_answer){0, k, 0})"),
+     "(block = (struct cubejobs_fit_answer){0, k, 0})"),
     ("one job runs at a time", "start(next, block.base);", "start(next++, block.base); break;"),
     ("a message is not counted", "part->to[round] = to == MPI_PROC_NULL", "part->to[round] = to != MPI_PROC_NULL"),
 )

@@ -84,23 +84,78 @@ static void lifetimes() {
     }
 }
 
+static void expect_answer(cubejobs_fit_answer got, std::uint32_t code, std::uint32_t dim, std::uint64_t base,
+                          const char *what) {
+    expect(got.code == code && got.dim == dim && got.base == base, what);
+}
+
+/* A machine of first fit in memory of its own: blocks that are taken, split, joined and looked for. */
 static void exact() {
     first_fit::block kept, pair;
     {
         first_fit mine(4);
         kept = mine.take(3);
         pair = mine.take(1);
-        expect(kept.base() == 0 && pair.base() == 8 && mine.take(3).code() == CUBEJOBS_NO_SUBCUBE, "first fit");
+        expect(kept.base() == 0 && pair.base() == 8 && mine.take(3).code() == CUBEJOBS_FIT_NO_ROOM, "first fit");
+        expect(mine.take_at(9, 0).code() == CUBEJOBS_FIT_TAKEN && mine.take_at(12, 2).base() == 12, "given blocks");
+        expect_answer(mine.first(1), CUBEJOBS_FIT_DONE, 1, 10, "the first pair");
+        expect_answer(mine.first_apart(1, 8, 2), CUBEJOBS_FIT_DONE, 1, 12, "the first pair apart from four");
+        expect_answer(mine.block_with(7), CUBEJOBS_FIT_DONE, 3, 0, "the block with a processor");
+        expect_answer(mine.largest(), CUBEJOBS_FIT_DONE, 2, 12, "the largest free block");
+        expect(mine.is_free(10, 1) && !mine.is_free(8, 1) && mine.free_blocks(1) == 3, "free blocks");
+        expect(mine.occupancy().held == 10 && mine.occupancy().largest == 2, "an occupancy");
+        first_fit::block upper = mine.split(kept), quarter = mine.split(upper);
+        expect(kept.dim() == 2 && upper.base() == 4 && upper.dim() == 1 && quarter.base() == 6, "halves");
+        expect(!mine.join(kept, upper) && !mine.join(quarter, upper) && !mine.join(upper, upper), "no halves");
+        expect(mine.join(upper, quarter) && !quarter && mine.join(kept, upper) && kept.dim() == 3, "halves are joined");
+        first_fit::block one = mine.take_at(15, 0), none = mine.split(one);
+        expect(none.code() == CUBEJOBS_FIT_BAD_DIMENSION && one.base() == 15, "one processor has no halves");
+        expect(mine.split(none).code() == CUBEJOBS_FIT_NOTHING_HELD, "nothing has no halves");
         kept = first_fit::block();
         expect(mine.take(3).base() == 0, "first fit after a release");
     }
     expect(pair.dim() == 1 && !kept, "a block outlives its machine");
+    first_fit other(4);
+    first_fit::block theirs = other.take(1);
+    expect(other.split(pair).code() == CUBEJOBS_FIT_NOTHING_HELD && !other.join(theirs, pair), "a block of another");
     try {
         first_fit too_large(21);
         expect(false, "a machine of first fit that is too large");
     } catch (const cubejobs::error &wrong) {
-        expect(wrong.code == CUBEJOBS_BAD_DIMENSION, "an error of first fit");
+        expect(wrong.code == CUBEJOBS_FIT_BAD_DIMENSION, "an error of first fit");
     }
+}
+
+/* A machine of first fit in memory of the caller: blocks that are left stay held, and find other owners. */
+static void exact_in_memory() {
+    std::uint64_t memory[16] = {};
+    const auto refusal = [&](first_fit (*call)(void *, std::size_t, std::uint32_t), std::size_t size, std::uint32_t dim) {
+        try {
+            call(memory, size, dim);
+        } catch (const cubejobs::error &wrong) {
+            return wrong.code;
+        }
+        return std::uint32_t{0};
+    };
+    expect(refusal(first_fit::attach, 128, 3) == CUBEJOBS_FIT_BAD_IMAGE, "an attach of no image");
+    expect(refusal(first_fit::open, 111, 3) == CUBEJOBS_FIT_BAD_SIZE, "an open of small memory");
+    expect(refusal(first_fit::repair, 128, 21) == CUBEJOBS_FIT_BAD_DIMENSION, "a repair of no dimension");
+    {
+        first_fit mine = first_fit::open(memory, sizeof memory, 3);
+        first_fit::block four = mine.take(2), pair = mine.take(1);
+        expect(four.base() == 0 && pair.base() == 4, "blocks in memory");
+        mine.leave(four);
+        expect(!four && mine.own(8).code() == CUBEJOBS_FIT_BAD_BASE, "a block is left");
+    }
+    first_fit again = first_fit::attach(memory, sizeof memory, 3);
+    expect(again.occupancy().held == 4 && again.own(4).code() == CUBEJOBS_FIT_NOTHING_HELD, "it is still held");
+    {
+        const first_fit::block four = again.own(2);
+        expect(four.base() == 0 && four.dim() == 2 && again.take(3).code() == CUBEJOBS_FIT_NO_ROOM, "and has an owner");
+    }
+    first_fit repaired = first_fit::repair(memory, sizeof memory, 3);
+    expect(repaired.take(3).base() == 0, "and it is released");
+    expect(refusal(first_fit::attach, 128, 3) == 0, "an attach");
 }
 
 /* Expects that a call throws an error with this code. */
@@ -132,7 +187,13 @@ static void moved() {
     mine = machine(2);
     expect(mine.take(2).code() == CUBEJOBS_REGIONS_DONE, "a machine after a move");
     first_fit one(3), other = std::move(one);
-    expect(one.take(0).code() == CUBEJOBS_BAD_SIZE && one.code() == CUBEJOBS_BAD_SIZE && !other.code(), "first fit");
+    first_fit::block its = other.take(0);
+    expect(one.take(0).code() == CUBEJOBS_FIT_BAD_SIZE && one.code() == CUBEJOBS_FIT_BAD_SIZE && !other.code(), "first fit");
+    expect(one.take_at(0, 0).code() == CUBEJOBS_FIT_BAD_SIZE && one.own(0).code() == CUBEJOBS_FIT_BAD_SIZE, "takes of none");
+    expect(one.split(its).code() == CUBEJOBS_FIT_BAD_SIZE && !one.join(its, its) && its, "halves of none");
+    expect(one.first(0).code == CUBEJOBS_FIT_BAD_SIZE && one.largest().code == CUBEJOBS_FIT_BAD_SIZE &&
+               one.first_apart(0, 0, 0).code == CUBEJOBS_FIT_BAD_SIZE && one.occupancy().code == CUBEJOBS_FIT_BAD_SIZE &&
+               one.block_with(0).code == CUBEJOBS_FIT_BAD_SIZE && !one.is_free(0, 0) && !one.free_blocks(0), "questions");
     cubejobs::lanes lanes(2, 1, 4), kept = std::move(lanes);
     expect(lanes.close().code == CUBEJOBS_DISPATCH_NOT_OPEN && lanes.code() == CUBEJOBS_DISPATCH_NOT_OPEN, "lanes");
     expect_error(CUBEJOBS_DISPATCH_NOT_OPEN, [&] { lanes.lane(); }, "a lane of moved lanes");
@@ -372,6 +433,7 @@ int main() {
     blocks();
     lifetimes();
     exact();
+    exact_in_memory();
     moved();
     waits();
     many_deadlines();

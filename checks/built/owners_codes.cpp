@@ -18,7 +18,10 @@ int main() {
     cubejobs::block held = mine.take(3);
     expect(held && !mine.take_exact(0), "takes");
     cubejobs::first_fit flat(21), small(2);
-    expect(flat.code() == CUBEJOBS_BAD_DIMENSION && !flat.take(0) && small.take(1), "first fit");
+    expect(flat.code() == CUBEJOBS_FIT_BAD_DIMENSION && !flat.take(0) && small.take(1), "first fit");
+    std::uint64_t memory[14] = {};
+    cubejobs::first_fit bare = cubejobs::first_fit::attach(memory, sizeof memory, 3);
+    expect(bare.code() == CUBEJOBS_FIT_BAD_IMAGE && !bare.take(0), "no image");
     cubejobs::lanes empty(0, 1, 1), lanes(1, 1, 2);
     expect(empty.code() == CUBEJOBS_DISPATCH_BAD_SIZES && !empty.lane() && !empty.worker(), "lanes of no size");
     cubejobs::lane lane = lanes.lane();

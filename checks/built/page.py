@@ -5,7 +5,7 @@ What the page shows after each event of a schedule is compared with a replay tha
 rows, the row, and that there is a sentence for it. What it shows after each command of `place` is compared with the
 rows. Files that are no output of the program must each be refused with a reason. The rules of the tree must accept each
 row of random schedules, and name each row that was altered. The proved library in the page must be the one that
-the toolchain builds from crates/cubejobs_c, and answer 10,000 calls as `place` does. The pictures of docs/ must be those
+the toolchain builds from crates/cubejobs_fit, and answer 10,000 calls as `place` does. The pictures of docs/ must be those
 that the page draws.
 
 The scripts of the page run under node; where there is a Chromium, the page itself is opened in it too: at several
@@ -326,7 +326,7 @@ def check_library(built, writes):
         name = f"n{chance.randrange(70)}"
         commands.append(["take", name, chance.choice((0, 0, 0, 1, 1, 2, 3, 4, 7))] if chance.random() < 0.55 else ["free", name, "-"])
     if shutil.which("rt"):
-        module = wasm_module("cubejobs_c")
+        module = wasm_module("cubejobs_fit")
         if writes:
             lines = re.findall(".{1,100}", base64.b64encode(module).decode())
             set_block("library", "\n" + "\n".join(lines) + "\n")

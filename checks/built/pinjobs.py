@@ -118,7 +118,7 @@ def must_stop(words, room):
 WRONG_PROGRAMS = (
     ("no command is pinned", "!sched_setaffinity(0, sizeof set, &set)", "!0"),
     ("each command gets the first block", "cubejobs_fit_take(&fit, jobs[next].dim)",
-     "(struct cubejobs_answer){0, jobs[next].dim, 0}"),
+     "(struct cubejobs_fit_answer){0, jobs[next].dim, 0}"),
     ("the order is that of the file", "x->dim != y->dim", "0"),
     ("OMP_NUM_THREADS is not set", "!setenv(\"OMP_NUM_THREADS\", number, 1)", "!0"),
     ("the last bad line is not seen", "memchr(line, 0, (size_t)length - 1)", "0"),

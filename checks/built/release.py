@@ -115,6 +115,8 @@ class Release:
                 yield f"{name} {DIFFERS}: {len(data)} and {len(own)} bytes, first at byte {at}"
             if newest_symbol(data) > NEWEST_GLIBC:
                 yield f"{name} needs the C library {'.'.join(map(str, newest_symbol(data)))}"
+        for name in sorted({*os.listdir(self.folder)} - {*FILES, "SHA256SUMS"}):
+            yield f"{name} is no file of a release"
 
     def differences(self, built):
         """Returns what is wrong with a release of these sources, and what is not compared since another build made
@@ -157,6 +159,8 @@ def stale_copies(released=RELEASE, copies=RUST):
         twin = os.path.join(copies, name)
         if not os.path.exists(twin) or read_bytes(twin) != read_bytes(released, name):
             yield f"{place(twin)} is not the file of release/"
+    for name in sorted({*os.listdir(copies)} - {*LIBRARIES, "aarch64"}):
+        yield f"{place(os.path.join(copies, name))} is no file of release/"
 
 
 def faults_of_aarch64():
@@ -212,6 +216,11 @@ def not_seen_of_bytes(release, built):
         release.change(name, at, bytes([release.bytes_of(name)[at] ^ 1]))
     if not are_all_in(release.differences(built)[0], "is not"):
         yield "files whose sums are others"
+    stray = os.path.join(release.folder, "stray")
+    put(stray)
+    if "stray is no file of a release" not in release.faults(built):
+        yield "a file of no release"
+    os.remove(stray)
     for by in builds:
         release.write_sums("0", by)
         wrong, skipped = release.differences(built)

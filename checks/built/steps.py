@@ -27,8 +27,8 @@ WORDS = ["--edition", "2021", "-Coverflow-checks=on", "-O", *(f'--cfg=feature="{
 IMPORT = "use core::sync::atomic::{AtomicU64, Ordering::SeqCst};"
 COUNTED = "use crate::counting::AtomicU64;\nuse core::sync::atomic::Ordering::SeqCst;"
 SHIMS = ("kit/atomic_table.rs", "kit/counted_slot.rs")
-# What has words of its own, and is not measured: the dispatcher over lanes.
-UNMEASURED = ["region_shop/ageing.rs"]
+# What has words of its own, and is not measured: the dispatcher over lanes, and first fit, which orders its writes.
+UNMEASURED = ["cubejobs_fit/open.rs", "fit_tree/writes.rs", "region_shop/ageing.rs"]
 
 
 class Slip(NamedTuple):

@@ -1,11 +1,12 @@
 """The eraser: makes plain Rust from proved sources, by leaving out contracts and what proofs alone read.
 
-It reads trees of tokens, never lines. It drops clauses, ghost items, ghost fields, attributes of the prover, and a
-`Drop` that only takes its value apart. It keeps the clauses of a public function as lines of its documentation. It
-gives paths the names that they have in `rust/src/source`. It writes nothing of its own except what is named here:
+It reads trees of tokens, never lines. It drops clauses, ghost items, ghost fields, attributes of the prover, texts of
+errors, and a `Drop` that only takes its value apart. It keeps the clauses of a public function as lines of its
+documentation. It gives paths the names that they have in `rust/src/source`. It writes nothing of its own except what is
+named here:
 
-- a first line that names the source, `pub(crate)` at the modules of a crate, and an import of the names that Rattle
-  knows everywhere,
+- a first line that names the source, `pub(crate)` at the private modules of a crate, and an import of the names that
+  Rattle knows everywhere,
 - `#[must_use]` at a type whose values the prover does not allow to be dropped,
 - `let alloc = Global;` in a function for C, to which C passes no allocator,
 - `ManuallyDrop::new(x)` for `unsafe { ManuallyDrop::new_unchecked(x) }`,
@@ -24,14 +25,13 @@ from checks.lib.repository import files_below, read
 
 # The erased crates, each after those that it uses. They are modules of `crate::source`.
 CRATES = (
-    "release_version", "cube_shape", "region_bits", "cubejobs_c", "collectives", "rank_steps", "cubejobs_rounds",
-    "bitmap_tree", "bitmap_occupancy", "cubejobs_regions", "ghost_log", "wake_pool", "wake_calls", "job_lanes", "kept_places",
-    "region_shop", "shop_owner", "cubejobs_dispatch")
+    "release_version", "cube_shape", "fit_tree", "cubejobs_fit", "collectives", "rank_steps", "cubejobs_rounds", "bitmap_tree",
+    "bitmap_occupancy", "cubejobs_regions", "ghost_log", "wake_pool", "wake_calls", "job_lanes", "kept_places", "region_shop",
+    "shop_owner", "cubejobs_dispatch")
 # The crates of the tree of status words, and the collectives as a whole. Only the check `steps` erases them, without the
-# pure machine, the texts of errors, and the text and the flags of a word.
+# pure machine, the text and the flags of a word.
 TREE = ("status_word", "cube_core", "tree_steps", "cube_tree", "collectives")
 LEFT_OUT = (
-    (r"\n *#\[error\(.*?\)\]", ""), (r"use thiserror::Error;\n", ""), (r", Error\)\]", ")]"),
     (r"    /// Returns the word as text.*?\n}\n(?=\n/// Proves)", "}\n"), (r"    /// Returns the bits of use\..*?\n    }\n\n", ""),
     (r"use crate::use_bits::UseBits;\nuse bitflags::Flags;\n|use std::(?:alloc::{AllocError, Global}|fmt::Write);\n(?=.*push_mark)", ""),
     (r"(?<=\n)(?:mod (?:use_bits|act|effect|world|padding)|pub use (?:use_bits|act|world|padding)::[^;]*);\n", ""),
@@ -45,10 +45,12 @@ CORE = ("cmp", "fmt", "marker", "mem", "ops", "sync::atomic")
 PRELUDE = ("Box", "Vec", "vec")
 # Types that are not those of a crate.
 PLAIN = ("bool", "u8", "u16", "u32", "u64", "usize")
-# The attributes that stay, and those that the prover or the linker reads.
-KEPT, DROPPED = ("cold", "derive", "doc", "inline", "must_use", "repr"), ("tactic", "unsafe")
+# The attributes that stay, and those that the prover or the linker reads, or the crate of errors.
+KEPT, DROPPED = ("cold", "derive", "doc", "inline", "must_use", "repr"), ("error", "tactic", "unsafe")
+# What stays in no list of `derive`: Rust can drop each value, and an error has no text here.
+NOT_DERIVED = ("Drop", "Error")
 # Modules that no other erased one uses.
-UNUSED = tuple(f"collectives/{it}" for it in ("collective", "monoid", "operations", "padding", "rounds"))
+UNUSED = (*(f"collectives/{it}" for it in ("collective", "monoid", "operations", "padding", "rounds")), "fit_tree/fit")
 # Functions of the toolchain that only take a value apart. `abandon` and the like are found in the sources.
 ENDS = {"drop", "destroy_empty", "into_inner"}
 # Files with raw pointers. Each has the type below instead, of the shim.
@@ -61,7 +63,7 @@ use {KIT}::opaque::Opaque;
 pub(crate) type OpaquePtr = Opaque<State>;
 """
 # For a text of a source, another one. A `Drop` in Rust gets its value by reference, and takes the lane out of its
-# place. The size of a machine is that of the target. A handle that is shut is a constant of the Rust package.
+# place. A handle that is shut is a constant of the Rust package.
 MENDED = (
     ("bitmap_tree/steps", "pub fn blank() -> HiddenSeat", "pub const fn blank() -> HiddenSeat"),
     ("cubejobs_dispatch/share", "fn let_go(self) {\n        let Share {\n            common,\n            number,\n"
@@ -71,13 +73,10 @@ MENDED = (
      "            drop(leave(&self.common.lane_places[self.number as usize], kept));"),
     ("cubejobs_dispatch/share", "impl Drop for Share {\n    fn drop(self) {",
      "impl Drop for Share {\n    fn drop(&mut self) {"),
-    ("cubejobs_c/machine", "pub const MACHINE_BYTES: u64 = 4872;",
-     "pub const MACHINE_BYTES: u64 = core::mem::size_of::<Machine>() as u64;\n\n"
-     "const _: () = assert!(core::mem::align_of::<u64>() != 8 || MACHINE_BYTES == 4872);"),
 )
 # The crates that export functions to C, and the modules of the library for C that do so here.
 LIBRARIES = {
-    "cubejobs_c": "exact", "cubejobs_rounds": "rounds", "cubejobs_regions": "regions", "cubejobs_dispatch": "dispatch"}
+    "cubejobs_fit": "fit", "cubejobs_rounds": "rounds", "cubejobs_regions": "regions", "cubejobs_dispatch": "dispatch"}
 EXPORTS = """// Made by checks/lib/erase.py from the functions that crates/CRATE exports. Change those.
 //! The functions of C of `CRATE`, over the erased sources.
 
@@ -203,14 +202,20 @@ def strip_head(out):
     out.append(token("\n\n" if out and last(out) in (";", "}") else "\n", "space"))
 
 
-def exported(crate, name, parameters, head):
+def homes_of(text):
+    """Returns the crate of each name that a source takes from another erased crate."""
+    uses = re.findall(r"^use (\w+)::\{?([\w,\s]+)\}?;", text, re.M)
+    return {name: crate for crate, names in uses if crate in CRATES for name in re.findall(r"\w+", names)}
+
+
+def exported(crate, homes, name, parameters, head):
     """Returns the function of C that calls an erased function. A slice is a pointer and a number there."""
     taken, given, counts = [], [], []
     for parameter, kind in re.findall(r"(\w+): (&?(?:mut )?(?:\[\w+\]|\w+))", shown(parameters)):
         is_slice = kind.endswith("]")
         pointer = "*mut " if "mut" in kind else "*const "
         inside = re.search(r"\w+(?=\]?$)", kind)[0]
-        named = inside if inside in PLAIN else f"source::{crate}::{inside}"
+        named = inside if inside in PLAIN else f"source::{homes.get(inside, crate)}::{inside}"
         if is_slice:
             counts.append(parameter)
             taken += [f"{parameter}: {pointer}{named}", f"{parameter}_count: usize"]
@@ -232,6 +237,7 @@ class Eraser:
     def __init__(self, crate, droppable, unused=UNUSED):
         self.crate, self.droppable, self.unused = crate, droppable, unused
         self.file, self.is_for_c, self.derived, self.drops, self.exports = "", False, [], [], []
+        self.homes = {}
 
     def erased(self, items):
         """Returns a tree without what is not Rust."""
@@ -268,7 +274,7 @@ class Eraser:
             kept = ""
         elif name == "derive":
             self.derived = [it for it in re.split(r"[,\s]+", shown(items[opens][1])[1:-1]) if it]
-            kept = ", ".join(it for it in self.derived if it != "Drop")
+            kept = ", ".join(it for it in self.derived if it not in NOT_DERIVED)
             kept = kept and f"#[derive({kept})]"
         elif name in KEPT:
             kept = shown(items[at:following])
@@ -393,7 +399,7 @@ class Eraser:
             taken = tree(taken[after(taken, comma + 1) if comma < len(taken) else comma :], "(")
             body.insert(0, token("\n    let alloc = Global;"))
         if is_for_c:
-            self.exports.append(exported(self.crate, str(items[name]), taken, shown(head)))
+            self.exports.append(exported(self.crate, self.homes, str(items[name]), taken, shown(head)))
         out += [items[at], *self.erased(items[at + 1 : given]), taken, *self.erased(head)]
         if body is None:
             return end
@@ -432,13 +438,14 @@ class Eraser:
         if f"{self.crate}/{items[name]}" in self.unused:
             strip_head(out)
             return name + 2
-        out += [token("pub(crate) "), items[at]]
+        out += [items[at]] if last(out) == "pub" else [token("pub(crate) "), items[at]]
         return at + 1
 
     def on_use(self, items, at, out):
-        """Leaves out what has no meaning in Rust: models. Leaves out names of modules that are not used."""
-        end = until(items, at, ";")
-        if f"{self.crate}/{items[after(items, at + 1)]}" in self.unused and self.file.endswith("/lib"):
+        """Leaves out what has no meaning here: models, and texts of errors. Leaves out names of modules that are not
+        used."""
+        end, first = until(items, at, ";"), items[after(items, at + 1)]
+        if first == "thiserror" or f"{self.crate}/{first}" in self.unused and self.file.endswith("/lib"):
             strip_head(out)
             return end + 1
         if not re.search(r"\bModel\b", shown(items[at:end])):
@@ -575,7 +582,7 @@ def erased_files(crate, files, unused=UNUSED):
     eraser, made = Eraser(crate, droppable, unused), {}
     for file, text in files.items():
         name = f"{crate}/{file}"
-        eraser.file = name
+        eraser.file, eraser.homes = name, homes_of(text)
         if name in OPAQUE:
             made[file] = with_head(name, OPAQUE_TEXT.replace("CRATE", crate))
             continue

@@ -22,7 +22,7 @@ class Library(NamedTuple):
 
 
 LIBRARIES = (
-    Library("cubejobs.h", "CUBEJOBS_", "cubejobs_code", "cubejobs_c"),
+    Library("cubejobs_fit.h", "CUBEJOBS_FIT_", "cubejobs_fit_code", "cubejobs_fit"),
     Library("cubejobs_regions.h", "CUBEJOBS_REGIONS_", "cubejobs_regions_code", "cubejobs_regions",
             ("TIMED_OUT", "STOPPED", "STALE")),
     Library("cubejobs_dispatch.h", "CUBEJOBS_DISPATCH_", "cubejobs_dispatch_code", "cubejobs_dispatch"),
@@ -30,11 +30,10 @@ LIBRARIES = (
 )
 TEXTS = "cubejobs_codes.h"
 # Where the Rust package has numbers of codes, and the header that they are of.
-IN_RUST = {"ffi.rs": "cubejobs.h", "fit_ffi.rs": "cubejobs.h", "regions_ffi.rs": "cubejobs_regions.h",
-           "dispatch_ffi.rs": "cubejobs_dispatch.h", "rounds_ffi.rs": "cubejobs_rounds.h"}
-# The outcomes of the page, with the codes of cubejobs.h that they show.
-IN_PAGE = {"given": "DONE", "freed": "DONE", "nosubcube": "NO_SUBCUBE", "held": "STATION_HOLDS", "nostation": "NO_STATION",
-           "nothingheld": "NOTHING_HELD"}
+IN_RUST = {"fit_ffi.rs": "cubejobs_fit.h", "regions_ffi.rs": "cubejobs_regions.h", "dispatch_ffi.rs": "cubejobs_dispatch.h",
+           "rounds_ffi.rs": "cubejobs_rounds.h"}
+# The outcomes of the page that are codes of cubejobs_fit.h.
+IN_PAGE = {"given": "DONE", "freed": "DONE", "nosubcube": "NO_ROOM"}
 CONSTANT = re.compile(r"^pub const ([A-Z_]+): u32 = (\d+);", re.M)
 
 
@@ -70,7 +69,7 @@ def faults():
             yield f"{library.crate} and {library.header} differ in {sorted(set(crate.items()) ^ set(own.items()))}"
     shown = re.findall(r"^const (?:TAKEN|FREED) = \{ __proto__: null, (.*) \};", read("view/index.html"), re.M)
     pairs = {word: int(number) for line in shown for number, word in re.findall(r'(\d+): "(\w+)"', line)}
-    if pairs != {word: headers["cubejobs.h"][name] for word, name in IN_PAGE.items()}:
+    if pairs != {word: headers["cubejobs_fit.h"][name] for word, name in IN_PAGE.items()}:
         yield f"view/index.html has the codes {pairs}"
     for file, header in IN_RUST.items():
         constants = CONSTANT.findall(read("rust/src", file))

@@ -106,13 +106,14 @@ def left_out(words, at):
         return past_ghost(words, at + 1)
     if word == "#":
         inside = at + 1 + (words[at + 1] == "!")
-        if words[inside + 1] in ("tactic", "unsafe") or words[inside + 1 : inside + 5] == ["derive", "(", "Drop", ")"]:
+        if words[inside + 1] in ("error", "tactic", "unsafe") or words[inside + 1 : inside + 5] == ["derive", "(", "Drop", ")"]:
             return past(words, inside)
         if words[inside + 1 : inside + 4] == ["cfg", "(", "test"]:
             return words.index(";", inside) + 1
     if is_ghost_impl(words, at):
         return past_item(words, at)
     for words_left_out in (["extern", '"C"'], ["alloc", ":", "Global", ","], ["alloc", ":", "Global"], ["unsafe"],
+                           ["use", "thiserror", "::", "Error", ";"], [",", "Error"],
                            ["+", "Drop"], ["Drop"], ["Drop", ","], [",", "Drop"], ["&", "&"], [","]):
         if rest[: len(words_left_out)] == words_left_out:
             return at + len(words_left_out)
@@ -169,7 +170,7 @@ def is_ghost_impl(words, at):
 
 def is_clause(words, at):
     """Answers whether a clause, a ghost item or an attribute of the prover begins at a place."""
-    is_attribute = words[at] == "#" and bool({"tactic", "unsafe"} & set(words[at + 2 : at + 4]))
+    is_attribute = words[at] == "#" and bool({"error", "tactic", "unsafe"} & set(words[at + 2 : at + 4]))
     is_ghost = words[at] in ("requires", "ensures", "ghost") or words[at : at + 2] == ["pub", "ghost"]
     return is_ghost or is_attribute or is_ghost_impl(words, at)
 

@@ -17,7 +17,7 @@ from checks.lib.rows import blind, print_faults
 NOBODYS = ("Lane", "Pass", "Station")
 # Which crates have a type of this name, and why that misleads nobody.
 ALLOWED = {
-    "Answer": ("cubejobs_c cubejobs_regions", "what a call of a library for C answers; each has a header of its own"),
+    "Answer": ("cubejobs_fit cubejobs_regions", "what a call of a library for C answers; each has a header of its own"),
     "Closer": ("dispatcher job_lanes", "the right to close a shop, and to close lanes of jobs"),
     "Entry": ("job_queue tree_steps", "a lane's entry into a line, and a station's member of a seat"),
     "Finished": ("dispatcher uses", "what is known at the end: of a shop, of a run over a line alone"),
@@ -28,6 +28,7 @@ ALLOWED = {
     "LaneRecord": ("job_lanes job_queue line_ring", "what a lane has done: of jobs, at a line and at its ring"),
     "Note": ("cube_core job_lanes", "of a machine that is closed, and of lanes that are"),
     "Occupancy": ("bitmap_occupancy cube_occupancy", "what is free, by the words of either tree"),
+    "OccupancyAnswer": ("cubejobs_fit cubejobs_regions", "what is free in a machine, by a library for C"),
     "Opened": ("dispatcher job_queue", "a new shop, and a new line, each with all that its callers need"),
     "PassRecord": ("job_queue line_ring", "what a pass has done, at a line and at its ring, which line_ruled joins"),
     "Plan": ("job_lanes tests_kit", "which words lanes have, and what a test does"),

@@ -14,7 +14,7 @@
 #include <string.h>
 #include <unistd.h>
 
-#include "cubejobs.h"
+#include "cubejobs_fit.h"
 #include "cubejobs_rounds.h"
 
 enum { BROADCAST, REDUCE, ALLREDUCE, SCAN, EXSCAN, KINDS };
@@ -166,19 +166,19 @@ static void end_job(int number, FILE *log) {
 
 // Runs all jobs, the widest first: then a take is refused only while each processor is held.
 static void run_jobs(int dim, int count, FILE *log) {
-    static unsigned char held[1 << MAX_DIM]; // a scheduler may keep it in a file, to begin again
+    static uint64_t image[12 + (2 << MAX_DIM) / 8]; // a scheduler may keep it in a file, to begin again
     struct cubejobs_fit fit = {0};
-    must_be(!cubejobs_fit_open(&fit, held, sizeof held, dim), "the allocator does not open");
+    must_be(!cubejobs_fit_open(&fit, image, sizeof image, dim), "the allocator does not open");
     for (int k = dim, next = 0, ended = 0; ended < count; ended++) {
-        for (struct cubejobs_answer block; k >= 0; next < count ? next++ : (k--, next = 0)) {
+        for (struct cubejobs_fit_answer block; k >= 0; next < count ? next++ : (k--, next = 0)) {
             if (next == count || jobs[next].dim != k) continue;
-            if ((block = cubejobs_fit_take(&fit, k)).code != CUBEJOBS_DONE) break;
+            if ((block = cubejobs_fit_take(&fit, k)).code != CUBEJOBS_FIT_DONE) break;
             if (log) fprintf(log, "take,%d,%d,%d\n", next, (int)block.base, k);
             start(next, block.base);
         }
         wait_for(MPI_ANY_SOURCE, REPLY);
         MPI_Recv(parts, sizeof *parts << dim, MPI_BYTE, MPI_ANY_SOURCE, REPLY, MPI_COMM_WORLD, MPI_STATUS_IGNORE);
-        must_be(!cubejobs_fit_release(&fit, parts->base, jobs[parts->job].dim), "a processor of a job was free");
+        must_be(!cubejobs_fit_release(&fit, parts->base, jobs[parts->job].dim), "the block of a job is not held");
         if (end_job(parts->job, log), log) fprintf(log, "release,%d\n", parts->job);
     }
 }

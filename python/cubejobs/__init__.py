@@ -35,8 +35,11 @@ back, also if blocks of it were forgotten. As long as you have a block, its mach
 Threads. They may share a machine and its blocks: a lock lets them in one after the other.
 
 Processes. A machine belongs to one process. In the child of a fork, each call on a machine or a block of the parent
-raises OtherProcess. A copy would give out the same processors again. So let the parent take and release, and send
+raises OtherProcess: it would give out the same processors again. So let the parent take and release, and send
 `block.region` to its workers: that is two plain numbers. `examples/processes.py` does so.
+
+Copies. A `FirstFit` can be copied, pickled, and made an image of bytes. The copy is another machine: what it takes, the
+first one may take too. So it is for plans, files and tests. Its blocks are held, and `held` lists them.
 
 This module is for experiments and notebooks: its calls are far slower than those of C. What is proved is the library,
 and not this module. It loads the shared objects from the folder that CUBEJOBS_LIB names. If it names none, the module
@@ -52,7 +55,7 @@ from types import TracebackType
 from typing import (Any, Callable, ContextManager, Dict, List, NamedTuple, NoReturn, Optional, Tuple, Type,
                     TypeVar, Union)
 
-from cubejobs._library import DONE, MAX_DIM, REGIONS_VERSION, Handle, load
+from cubejobs._library import DONE, HEAD_BYTES, MAX_DIM, REGIONS_VERSION, Handle, load
 
 __version__ = "0.3.0-dev"
 __all__ = ["Block", "FirstFit", "MAX_DIM", "Machine", "NoRoom", "NotHeld", "Occupancy", "OtherProcess", "Region",
@@ -60,6 +63,7 @@ __all__ = ["Block", "FirstFit", "MAX_DIM", "Machine", "NoRoom", "NotHeld", "Occu
 
 _regions, _fit = load(__version__)
 _Self = TypeVar("_Self", bound="Machine")
+_Fit = TypeVar("_Fit", bound="FirstFit")
 
 
 class NoRoom(Exception):
@@ -192,12 +196,12 @@ class Block:
         >>> lower.region
         Region(base=0, dim=3)
         """
-        return self._machine._split(self)
+        return self._machine.split(self)
 
     def join(self, upper: "Block") -> None:
         """Joins the upper half to this lower one, which then is the whole. Raises NotHeld if one of them was given back
         or is of another machine. Raises ValueError if they are not the two halves of a block."""
-        self._machine._join(self, upper)
+        self._machine.join(self, upper)
 
     def __enter__(self) -> "Block":
         return self
@@ -255,6 +259,9 @@ class Machine(abc.ABC):
                 raise NoRoom(f"a processor of the block of dimension {region.dim} at {region.base} is held")
             return Block(self, hold)
 
+    # The bookkeeping of a release, a split and a join comes before the call of the library. If Ctrl-C comes in between,
+    # processors may stay held, and are never given out twice.
+
     def release(self, block: Union[Block, Region]) -> None:
         """Gives a block back, or the block that is a region. Raises NotHeld if the block was given back or is of
         another machine, or no held block is the region. Raises ValueError if the machine has no such region."""
@@ -263,6 +270,30 @@ class Machine(abc.ABC):
             hold.region = None
             del self._holds[region.base]
             self._give_back(region, hold)
+
+    def split(self, block: Union[Block, Region]) -> Block:
+        """Leaves a block its lower half, and returns the upper one. Raises ValueError if the block is one processor, or
+        the machine has no such region. Raises NotHeld as a release does."""
+        with self._turn():
+            lower, (base, dim) = self._held(block)
+            if dim == 0:
+                raise ValueError("a block of one processor has no halves")
+            middle = base + (1 << dim - 1)
+            upper = _Hold(Region(middle, dim - 1), Handle() if lower.handle else None)
+            lower.region, self._holds[middle] = Region(base, dim - 1), upper
+            self._cut(lower, upper)
+            return Block(self, upper)
+
+    def join(self, lower: Union[Block, Region], upper: Union[Block, Region]) -> None:
+        """Joins the upper half of a block to the lower one, which then is the whole. Raises ValueError if they are not
+        the two halves of a block, or the machine has no such region. Raises NotHeld as a release does."""
+        with self._turn():
+            (whole, (base, dim)), (half, other) = self._held(lower), self._held(upper)
+            if base % (2 << dim) or other != (base + (1 << dim), dim):
+                raise ValueError("these are not the lower and the upper half of a block")
+            whole.region, half.region = Region(base, dim + 1), None
+            del self._holds[other.base]
+            self._glue(whole, half)
 
     def held(self) -> List[Region]:
         """Returns the regions of all held blocks, in their order, also of those that were forgotten."""
@@ -293,7 +324,7 @@ class Machine(abc.ABC):
             if kind is None:
                 raise
 
-    def __reduce__(self) -> NoReturn:
+    def __reduce__(self) -> Any:
         raise TypeError("a machine cannot be copied or sent to another process: a copy would give out the same blocks")
 
     def __repr__(self) -> str:
@@ -339,29 +370,6 @@ class Machine(abc.ABC):
             raise NotHeld(f"no block that is held is {region}")
         return hold, region
 
-    # The bookkeeping of a release, a split and a join comes before the call of the library. If Ctrl-C comes in between,
-    # processors may stay held, and are never given out twice.
-
-    def _split(self, block: Block) -> Block:
-        with self._turn():
-            lower, (base, dim) = self._held(block)
-            if dim == 0:
-                raise ValueError("a block of one processor has no halves")
-            middle = base + (1 << dim - 1)
-            upper = _Hold(Region(middle, dim - 1), Handle() if lower.handle else None)
-            lower.region, self._holds[middle] = Region(base, dim - 1), upper
-            self._cut(lower, upper)
-            return Block(self, upper)
-
-    def _join(self, block: Block, half: Block) -> None:
-        with self._turn():
-            (lower, (base, dim)), (upper, other) = self._held(block), self._held(half)
-            if base % (2 << dim) or other != (base + (1 << dim), dim):
-                raise ValueError("these are not the lower and the upper half of a block")
-            lower.region, upper.region = Region(base, dim + 1), None
-            del self._holds[other.base]
-            self._glue(lower, upper)
-
     @abc.abstractmethod
     def _find(self, dim: int) -> Optional[_Hold]:
         """Takes a free block, and keeps it among the held ones. Returns None if there is none."""
@@ -374,11 +382,13 @@ class Machine(abc.ABC):
     def _give_back(self, region: Region, hold: _Hold) -> None:
         """Releases a block."""
 
+    @abc.abstractmethod
     def _cut(self, lower: _Hold, upper: _Hold) -> None:
-        """Splits a block."""
+        """Splits a block, whose lower half has its region already."""
 
+    @abc.abstractmethod
     def _glue(self, lower: _Hold, upper: _Hold) -> None:
-        """Joins two blocks."""
+        """Joins two blocks, of which the lower one is the whole already."""
 
     @abc.abstractmethod
     def _end(self) -> None:
@@ -463,7 +473,7 @@ def _drop(handle: Handle, holds: Dict[int, _Hold], mark: object) -> None:
 
 
 class FirstFit(Machine):
-    """A machine with exact first fit: a take gets the free block with the least base. It takes a byte for each
+    """A machine with exact first fit: a take gets the free block with the least base. It takes two bytes for each
     processor.
 
     >>> machine = FirstFit(3)
@@ -474,50 +484,115 @@ class FirstFit(Machine):
     Block(base=4, dim=2)
     >>> machine.largest()
     Region(base=2, dim=1)
+    >>> machine.first_apart(0, Region(0, 1))
+    Region(base=2, dim=0)
     >>> block.release()
     >>> machine.free_blocks(2)
     1
+
+    A copy is another machine. It holds the same blocks:
+
+    >>> import copy
+    >>> plan = copy.copy(machine)
+    >>> plan.take(2).region, plan.held()
+    (Region(base=4, dim=2), [Region(base=0, dim=0), Region(base=4, dim=2)])
+    >>> machine.held()
+    [Region(base=0, dim=0)]
     """
 
     def __init__(self, dim: int) -> None:
         super().__init__(dim)
-        self._size = 1 << self.dim
-        # The pointer keeps the bytes.
-        self._bits = ctypes.cast((ctypes.c_bool * self._size)(), ctypes.POINTER(ctypes.c_bool))
+        self._give_memory()
+        _must_be_done(_fit.open(*self._image))
+
+    @classmethod
+    def from_image(cls: Type[_Fit], dim: int, image: bytes) -> _Fit:
+        """Makes a machine of the bytes that `image` has returned. `held` lists its blocks. Raises ValueError if they
+        are not a sound image of this dimension."""
+        image, machine = bytes(image), cls.__new__(cls)
+        Machine.__init__(machine, dim)
+        machine._give_memory()
+        if len(image) != ctypes.sizeof(machine._memory):
+            raise ValueError(f"an image of dimension {machine.dim} has {ctypes.sizeof(machine._memory)} bytes")
+        machine._memory[:] = image
+        if _fit.check(*machine._image) != DONE:
+            raise ValueError(f"the bytes are not a sound image of dimension {machine.dim}")
+        # A byte is 0 if its node was taken as one block.
+        node = image.find(0, HEAD_BYTES + 1) - HEAD_BYTES
+        while node > 0:
+            size = machine.dim + 1 - node.bit_length()
+            base = (node << size) - (1 << machine.dim)
+            machine._holds[base] = _Hold(Region(base, size))
+            node = image.find(0, HEAD_BYTES + node + 1) - HEAD_BYTES
+        return machine
+
+    def image(self) -> bytes:
+        """Returns the machine as bytes, for a file: `from_image` makes a machine of them."""
+        with self._turn():
+            self._must_be_open()
+            return bytes(self._memory)
 
     def occupancy(self) -> Occupancy:
-        with self._turn():
-            largest, free = self.largest(), [self.free_blocks(dim) for dim in range(self.dim + 1)]
-        return Occupancy(self._size - free[0], largest.dim if largest else None, free)
+        found = self._call(_fit.occupancy)
+        largest = found.largest if found.has_free else None
+        return Occupancy(found.held, largest, list(found.free[: self.dim + 1]))
 
     def is_free(self, base: int, dim: int) -> bool:
         """Returns whether all of the block that begins at a processor is free. Raises ValueError if there is no such
         block."""
         region = self._region(base, dim)
-        return bool(self._call(_fit.bits_is_free, *region))
+        return bool(self._call(_fit.is_free, *region))
 
     def free_blocks(self, dim: int) -> int:
         """Returns how many blocks of a dimension are free."""
-        return int(self._call(_fit.bits_free_regions, _natural(dim, self.dim, "the dimension of a block")))
+        return int(self._call(_fit.free_blocks, _natural(dim, self.dim, "the dimension of a block")))
 
     def largest(self) -> Optional[Region]:
         """Returns the first free block of the largest dimension that has one, or None. Takes nothing."""
-        found = self._call(_fit.bits_largest)
-        return Region(found.base, found.dim) if found.code == DONE else None
+        return self._found(_fit.largest)
+
+    def first(self, dim: int) -> Optional[Region]:
+        """Returns the block that a take would get, or None. Takes nothing."""
+        return self._found(_fit.first, _natural(dim, self.dim, "the dimension of a block"))
+
+    def first_apart(self, dim: int, avoid: Union[Block, Region]) -> Optional[Region]:
+        """Returns the first free block that does not overlap another one, or None. The other one may be free or held.
+        Takes nothing. Raises ValueError if the machine has no such block."""
+        dim = _natural(dim, self.dim, "the dimension of a block")
+        return self._found(_fit.first_apart, dim, *self._region(*avoid.region))
+
+    def block_with(self, processor: int) -> Optional[Region]:
+        """Returns the held block that has a processor, or None if it is free."""
+        return self._found(_fit.block_with, _natural(processor, (1 << self.dim) - 1, "a processor"))
+
+    def __reduce__(self) -> Any:
+        return type(self).from_image, (self.dim, self.image())
+
+    def _give_memory(self) -> None:
+        """Gives the machine memory at a multiple of 8, and the arguments of calls that use it."""
+        count = 2 << self.dim
+        words = (ctypes.c_uint64 * ((HEAD_BYTES + count + 7) // 8))()
+        self._memory = (ctypes.c_char * (HEAD_BYTES + count)).from_buffer(words)
+        head = ctypes.addressof(words)
+        self._image = head, head + HEAD_BYTES, count, self.dim
 
     def _call(self, call: Callable[..., Any], *numbers: int) -> Any:
         with self._turn():
             self._must_be_open()
-            return call(self._bits, self._size, self.dim, *numbers)
+            return call(*self._image, *numbers)
+
+    def _found(self, call: Callable[..., Any], *numbers: int) -> Optional[Region]:
+        found = self._call(call, *numbers)
+        return Region(found.base, found.dim) if found.code == DONE else None
 
     def _find(self, dim: int) -> Optional[_Hold]:
-        return self._filled(_fit.bits_take, dim)
+        return self._filled(_fit.take, dim)
 
     def _find_at(self, region: Region) -> Optional[_Hold]:
-        return self._filled(_fit.bits_take_region, *region)
+        return self._filled(_fit.take_at, *region)
 
     def _filled(self, take: Callable[..., Any], *numbers: int) -> Optional[_Hold]:
-        found = take(self._bits, self._size, self.dim, *numbers)
+        found = take(*self._image, *numbers)
         if found.code != DONE:
             return None
         base = found.base
@@ -526,7 +601,15 @@ class FirstFit(Machine):
         return hold
 
     def _give_back(self, region: Region, hold: _Hold) -> None:
-        _must_be_done(_fit.bits_release(self._bits, self._size, self.dim, *region))
+        _must_be_done(_fit.release(*self._image, *region))
+
+    def _cut(self, lower: _Hold, upper: _Hold) -> None:
+        if lower.region:
+            _must_be_done(_fit.split(*self._image, lower.region.base, lower.region.dim + 1))
+
+    def _glue(self, lower: _Hold, upper: _Hold) -> None:
+        if lower.region:
+            _must_be_done(_fit.join(*self._image, *lower.region))
 
     def _end(self) -> None:
-        del self._bits
+        del self._memory, self._image

@@ -8,6 +8,8 @@ from typing import Any, Dict, List, Tuple
 MAX_DIM = 20
 # The version of the header of the lock-free library, CUBEJOBS_REGIONS_VERSION.
 REGIONS_VERSION = 3
+# The bytes of an image of first fit before its tree.
+HEAD_BYTES = 96
 DONE = 0
 
 
@@ -31,8 +33,10 @@ class _FitAnswer(ctypes.Structure):
     _fields_ = [("code", ctypes.c_uint32), ("dim", ctypes.c_uint32), ("base", ctypes.c_uint64)]
 
 
-_U32, _U64, _SIZE, _BOOL = ctypes.c_uint32, ctypes.c_uint64, ctypes.c_size_t, ctypes.c_bool
-_HANDLE, _BITS = ctypes.POINTER(Handle), ctypes.POINTER(ctypes.c_bool)
+_U32, _U64, _BOOL = ctypes.c_uint32, ctypes.c_uint64, ctypes.c_bool
+_HANDLE = ctypes.POINTER(Handle)
+# An image of first fit: its head, its tree, the bytes of the tree, and the dimension.
+_IMAGE = [ctypes.c_void_p, ctypes.c_void_p, ctypes.c_size_t, _U32]
 # The result of a call, and its arguments.
 _Calls = Dict[str, Tuple[Any, List[Any]]]
 _REGIONS_CALLS: _Calls = {
@@ -44,16 +48,22 @@ _REGIONS_CALLS: _Calls = {
     "release": (_U32, [_HANDLE, _HANDLE]),
     "occupancy": (_OccupancyAnswer, [_HANDLE]),
     "free": (_U32, [_HANDLE]),
-    "version_number": (_U32, []),
 }
 _FIT_CALLS: _Calls = {
-    "bits_take": (_FitAnswer, [_BITS, _SIZE, _U32, _U32]),
-    "bits_take_region": (_FitAnswer, [_BITS, _SIZE, _U32, _U64, _U32]),
-    "bits_release": (_U32, [_BITS, _SIZE, _U32, _U64, _U32]),
-    "bits_is_free": (_BOOL, [_BITS, _SIZE, _U32, _U64, _U32]),
-    "bits_free_regions": (_U64, [_BITS, _SIZE, _U32, _U32]),
-    "bits_largest": (_FitAnswer, [_BITS, _SIZE, _U32]),
-    "version_number": (_U32, []),
+    "open": (_U32, _IMAGE),
+    "check": (_U32, _IMAGE),
+    "take": (_FitAnswer, [*_IMAGE, _U32]),
+    "take_at": (_FitAnswer, [*_IMAGE, _U64, _U32]),
+    "release": (_U32, [*_IMAGE, _U64, _U32]),
+    "split": (_U32, [*_IMAGE, _U64, _U32]),
+    "join": (_U32, [*_IMAGE, _U64, _U32]),
+    "first": (_FitAnswer, [*_IMAGE, _U32]),
+    "first_apart": (_FitAnswer, [*_IMAGE, _U32, _U64, _U32]),
+    "block_with": (_FitAnswer, [*_IMAGE, _U64]),
+    "is_free": (_BOOL, [*_IMAGE, _U64, _U32]),
+    "largest": (_FitAnswer, _IMAGE),
+    "free_blocks": (_U64, [*_IMAGE, _U32]),
+    "occupancy": (_OccupancyAnswer, _IMAGE),
 }
 
 
@@ -86,7 +96,9 @@ def _load(name: str, prefix: str, calls: _Calls, version: str) -> ctypes.CDLL:
         function = getattr(library, f"{prefix}_{call}")
         function.restype, function.argtypes = result, arguments
         setattr(library, call, function)
-    if library.version_number() != _number(version):
+    version_number = getattr(library, f"{name[3:-3]}_version_number")
+    version_number.restype, version_number.argtypes = _U32, []
+    if version_number() != _number(version):
         raise ImportError(f"{name} is of another version than this module, which is of {version}")
     return library
 
@@ -94,4 +106,4 @@ def _load(name: str, prefix: str, calls: _Calls, version: str) -> ctypes.CDLL:
 def load(version: str) -> Tuple[ctypes.CDLL, ctypes.CDLL]:
     """Returns the lock-free library and the exact one, both of this version. Raises ImportError if one is missing."""
     return (_load("libcubejobs_regions.so", "cubejobs_regions", _REGIONS_CALLS, version),
-            _load("libcubejobs_c.so", "cubejobs", _FIT_CALLS, version))
+            _load("libcubejobs_fit.so", "cubejobs_image", _FIT_CALLS, version))

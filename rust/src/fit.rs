@@ -1,219 +1,359 @@
-//! Exact first fit without stations, for any number of blocks: you keep the blocks that you took.
+//! Exact first fit of aligned blocks, for one thread or under your lock. You keep the blocks.
 //!
-//! A [`FirstFit`] needs one `bool` of memory for each processor, and keeps nothing else. The memory
-//! may be an array, a `Vec`, a `Box` or a borrowed slice.
+//! A take gets the free block with the least base, and is refused only if no block of its dimension
+//! is free. A release takes back exactly a block that was taken as one. Each call takes a number of
+//! steps in proportion to the dimension of the machine.
 //!
 //! ```
-//! use cubejobs::fit::{FirstFit, ReleaseError, TakeError};
+//! use cubejobs::fit::{FirstFit, FitError};
 //! use cubejobs::Region;
 //!
-//! let mut machine = FirstFit::new([false; 16], 4)?;
+//! let mut machine = FirstFit::new(4)?;
 //! let pair = machine.take(1)?;
 //! assert_eq!(pair, Region { base: 0, dim: 1 });
 //! assert_eq!(machine.take(3)?, Region { base: 8, dim: 3 });
-//! assert_eq!(machine.take(3), Err(TakeError::NoSubcube));
-//! assert_eq!(machine.largest_free(), Some(Region { base: 4, dim: 2 }));
-//! machine.release(pair)?;
-//! assert_eq!(machine.release(pair), Err(ReleaseError::NothingHeld));
-//! assert_eq!(machine.free_regions(2), 2);
-//! # Ok::<(), Box<dyn std::error::Error>>(())
+//! assert_eq!(machine.take(3), Err(FitError::NoRoom));
+//! assert_eq!(machine.largest(), Some(Region { base: 4, dim: 2 }));
+//! let (lower, upper) = machine.split(pair)?;
+//! assert_eq!(machine.release(pair), Err(FitError::NothingHeld));
+//! machine.release(lower)?;
+//! machine.release(upper)?;
+//! assert_eq!(machine.free_blocks(2), 2);
+//! # Ok::<(), FitError>(())
+//! ```
+//!
+//! A machine is an image of [`image_bytes`] bytes, which `include/cubejobs_fit.h` explains. It has
+//! no pointers, so it can be in a file or in memory that processes share. [`FirstFit::new`] has
+//! memory of its own. [`FirstFit::open`], [`FirstFit::attach`] and [`FirstFit::repair`] take a
+//! slice at a multiple of 8:
+//!
+//! ```
+//! use cubejobs::fit::{image_bytes, FirstFit, FitError};
+//!
+//! #[repr(align(8))]
+//! struct Memory([u8; image_bytes(4)]);
+//!
+//! let mut memory = Memory([0; image_bytes(4)]);
+//! let mut machine = FirstFit::open(&mut memory.0, 4)?;
+//! let block = machine.take(3)?;
+//! let mut machine = FirstFit::attach(&mut memory.0, 4)?;
+//! assert_eq!(machine.block_with(7)?, block);
+//! # Ok::<(), FitError>(())
 //! ```
 
-use crate::ffi::{self, Answer};
-use crate::{fit_ffi, Region};
+#[path = "fit_memory.rs"]
+mod memory;
+
+use crate::fit_ffi::{self as ffi, Answer};
+use crate::Region;
 use core::error::Error;
 use core::fmt;
+pub use memory::Memory;
+#[cfg(any(feature = "dispatch", feature = "regions", feature = "std"))]
+pub use memory::Owned;
 
-/// The largest dimension of a [`FirstFit`], which has at most `2^MAX_DIM` processors.
-pub const MAX_DIM: u32 = fit_ffi::MAX_DIM;
+/// The largest dimension of a machine, which has at most `2^MAX_DIM` processors.
+pub const MAX_DIM: u32 = ffi::MAX_DIM;
 
-/// A machine with first fit over memory of type `B`. A processor is held if its `bool` is `true`.
-///
-/// `B` must return the same slice each time, as the types of the standard library do. If it returns
-/// a shorter slice later, a call may panic.
+/// A machine with exact first fit over memory of type `M`: [`Owned`], or `&mut [u8]`. A clone is
+/// another machine.
 #[derive(Clone)]
-pub struct FirstFit<B> {
-    bits: B,
+pub struct FirstFit<M> {
+    memory: M,
     dim: u32,
 }
 
-/// The reason why no machine was made.
+/// The reason of a refused call. A refusal changes nothing.
 #[derive(Clone, Copy, Debug, PartialEq, Eq)]
 #[non_exhaustive]
-pub enum OpenError {
-    /// The dimension is above [`MAX_DIM`].
-    BadDimension,
-    /// The memory has fewer than `2^dim` places.
-    TooSmall,
-}
-
-/// The reason of a refused take. A refusal changes nothing.
-#[derive(Clone, Copy, Debug, PartialEq, Eq)]
-#[non_exhaustive]
-pub enum TakeError {
-    /// The dimension is above that of the machine.
+pub enum FitError {
+    /// A part of each block of this dimension is in use.
+    NoRoom,
+    /// The dimension is above that of the machine, or above [`MAX_DIM`]. Or the block has no
+    /// halves.
     BadDimension,
     /// No block of this dimension begins at this processor.
     BadBase,
-    /// No block of this dimension is free, or a processor of the given one is held.
-    NoSubcube,
-}
-
-/// The reason of a refused release. A refusal changes nothing.
-#[derive(Clone, Copy, Debug, PartialEq, Eq)]
-#[non_exhaustive]
-pub enum ReleaseError {
-    /// The dimension is above that of the machine.
-    BadDimension,
-    /// No block of this dimension begins at this processor.
-    BadBase,
-    /// A processor of the block is free.
+    /// A part of the block is in use.
+    Taken,
+    /// No such block is held.
     NothingHeld,
+    /// The two halves are not both held as one block each.
+    NotHalves,
+    /// The memory has fewer than [`image_bytes`] bytes, or does not begin at a multiple of 8.
+    BadSize,
+    /// The bytes are not a sound image of this dimension.
+    BadImage,
 }
 
-impl<B: AsRef<[bool]> + AsMut<[bool]>> FirstFit<B> {
-    /// Makes a machine of dimension `dim` with each processor free. Sets the first `2^dim` places
-    /// of `bits` to `false`, and never uses the others.
+/// What is free in a machine.
+#[derive(Clone, Copy, Debug, PartialEq, Eq)]
+#[non_exhaustive]
+pub struct Occupancy {
+    /// The number of free blocks of each dimension, at the dimension.
+    pub free: [u64; ffi::FREE_PLACES],
+    /// The number of processors in held blocks.
+    pub held: u64,
+    /// The largest dimension of a free block, if a block is free.
+    pub largest: Option<u32>,
+}
+
+/// Returns how many bytes the image of a machine of dimension `dim` has: 0 if it is above
+/// [`MAX_DIM`].
+#[must_use]
+pub const fn image_bytes(dim: u32) -> usize {
+    if dim > MAX_DIM {
+        return 0;
+    }
+    ffi::HEAD_BYTES + (2 << dim)
+}
+
+#[cfg(any(feature = "dispatch", feature = "regions", feature = "std"))]
+impl FirstFit<Owned> {
+    /// Makes a machine of dimension `dim` in memory of its own. Nothing is held.
     ///
     /// # Errors
     ///
-    /// The first of these that applies: `BadDimension`, `TooSmall`.
-    pub fn new(mut bits: B, dim: u32) -> Result<Self, OpenError> {
-        opened(fit_ffi::open(bits.as_mut(), dim))?;
-        Ok(FirstFit { bits, dim })
+    /// `BadDimension` if the dimension is above [`MAX_DIM`].
+    pub fn new(dim: u32) -> Result<Self, FitError> {
+        if dim > MAX_DIM {
+            return Err(FitError::BadDimension);
+        }
+        let mut memory = Owned::zeroed(image_bytes(dim));
+        done(ffi::open(memory::Bytes::bytes_mut(&mut memory), dim))?;
+        Ok(FirstFit { memory, dim })
     }
 
-    /// Makes a machine of dimension `dim`. A processor is held if its place in `bits` is `true`.
+    /// Makes a machine of dimension `dim` of a copy of an image, as [`FirstFit::image`] returns it.
     ///
     /// # Errors
     ///
-    /// The first of these that applies: `BadDimension`, `TooSmall`.
-    pub fn resume(bits: B, dim: u32) -> Result<Self, OpenError> {
-        opened(fit_ffi::check(bits.as_ref(), dim))?;
-        Ok(FirstFit { bits, dim })
+    /// The first of these that applies: `BadDimension`, `BadSize`, `BadImage`.
+    pub fn from_image(image: &[u8], dim: u32) -> Result<Self, FitError> {
+        if dim > MAX_DIM {
+            return Err(FitError::BadDimension);
+        }
+        let mut memory = Owned::zeroed(image_bytes(dim));
+        let own = memory::Bytes::bytes_mut(&mut memory);
+        own.copy_from_slice(image.get(..own.len()).ok_or(FitError::BadSize)?);
+        done(ffi::check(own, dim))?;
+        Ok(FirstFit { memory, dim })
+    }
+}
+
+impl<'a> FirstFit<&'a mut [u8]> {
+    /// Makes a machine of dimension `dim` of the first [`image_bytes`] bytes of the memory,
+    /// whatever they were before. Nothing is held. Never uses the other bytes.
+    ///
+    /// # Errors
+    ///
+    /// The first of these that applies: `BadDimension`, `BadSize`.
+    pub fn open(memory: &'a mut [u8], dim: u32) -> Result<Self, FitError> {
+        let memory = placed(memory, dim)?;
+        done(ffi::open(memory, dim))?;
+        Ok(FirstFit { memory, dim })
     }
 
+    /// Uses memory as a machine of dimension `dim` that was opened before, in another process or in
+    /// a file. Changes none of the bytes, and refuses each image that is not sound.
+    ///
+    /// # Errors
+    ///
+    /// The first of these that applies: `BadDimension`, `BadSize`, `BadImage`.
+    pub fn attach(memory: &'a mut [u8], dim: u32) -> Result<Self, FitError> {
+        let memory = placed(memory, dim)?;
+        done(ffi::check(memory, dim))?;
+        Ok(FirstFit { memory, dim })
+    }
+
+    /// Uses memory as [`FirstFit::attach`] does, after a process died inside a call. First it makes
+    /// the bytes the sound image of the blocks that are taken. The call happened, or it did not.
+    ///
+    /// # Errors
+    ///
+    /// The first of these that applies: `BadDimension`, `BadSize`, `BadImage` (of another
+    /// dimension, or no image).
+    pub fn repair(memory: &'a mut [u8], dim: u32) -> Result<Self, FitError> {
+        let memory = placed(memory, dim)?;
+        done(ffi::repair(memory, dim))?;
+        Ok(FirstFit { memory, dim })
+    }
+}
+
+impl<M: Memory> FirstFit<M> {
     /// Takes the first fit of dimension `k`: the free block with the least base.
     ///
     /// # Errors
     ///
-    /// The first of these that applies: `BadDimension`, `NoSubcube`.
-    pub fn take(&mut self, k: u32) -> Result<Region, TakeError> {
-        taken(fit_ffi::take(self.bits.as_mut(), self.dim, k))
+    /// The first of these that applies: `BadDimension`, `NoRoom`.
+    pub fn take(&mut self, k: u32) -> Result<Region, FitError> {
+        block(ffi::take(self.memory.bytes_mut(), self.dim, k))
     }
 
     /// Takes the block of dimension `k` that begins at the processor `base`.
     ///
     /// # Errors
     ///
-    /// The first of these that applies: `BadDimension`, `BadBase`, `NoSubcube`.
-    pub fn take_at(&mut self, base: u64, k: u32) -> Result<Region, TakeError> {
-        taken(fit_ffi::take_region(self.bits.as_mut(), self.dim, base, k))
+    /// The first of these that applies: `BadDimension`, `BadBase`, `Taken`.
+    pub fn take_at(&mut self, base: u64, k: u32) -> Result<Region, FitError> {
+        block(ffi::take_at(self.memory.bytes_mut(), self.dim, base, k))
     }
 
-    /// Releases a block. Each of its processors must be held. It may be a block that you took, an
-    /// aligned part of one, or several together.
+    /// Releases a block that was taken as one, or that is a half after a split or the whole after a
+    /// join.
     ///
     /// # Errors
     ///
     /// The first of these that applies: `BadDimension`, `BadBase`, `NothingHeld`.
-    pub fn release(&mut self, region: Region) -> Result<(), ReleaseError> {
-        match fit_ffi::release(self.bits.as_mut(), self.dim, region.base, region.dim) {
-            ffi::DONE => Ok(()),
-            ffi::BAD_DIMENSION => Err(ReleaseError::BadDimension),
-            ffi::BAD_BASE => Err(ReleaseError::BadBase),
-            ffi::NOTHING_HELD => Err(ReleaseError::NothingHeld),
-            code => unreachable!("a release has no code {code}"),
-        }
+    pub fn release(&mut self, block: Region) -> Result<(), FitError> {
+        done(ffi::release(self.memory.bytes_mut(), self.dim, block.base, block.dim))
+    }
+
+    /// Splits a held block. Returns its lower and its upper half, which then are held as one block
+    /// each.
+    ///
+    /// # Errors
+    ///
+    /// The first of these that applies: `BadDimension` (also if it is one processor), `BadBase`,
+    /// `NothingHeld`.
+    pub fn split(&mut self, block: Region) -> Result<(Region, Region), FitError> {
+        done(ffi::split(self.memory.bytes_mut(), self.dim, block.base, block.dim))?;
+        block.halves().ok_or(FitError::BadDimension)
+    }
+
+    /// Joins the two halves of this block, which then is held as one.
+    ///
+    /// # Errors
+    ///
+    /// The first of these that applies: `BadDimension` (also if it is one processor), `BadBase`,
+    /// `NotHalves`.
+    pub fn join(&mut self, block: Region) -> Result<(), FitError> {
+        done(ffi::join(self.memory.bytes_mut(), self.dim, block.base, block.dim))
+    }
+
+    /// Returns the block that a take of dimension `k` would get. Takes nothing.
+    ///
+    /// # Errors
+    ///
+    /// The first of these that applies: `BadDimension`, `NoRoom`.
+    pub fn first(&self, k: u32) -> Result<Region, FitError> {
+        block(ffi::first(self.memory.bytes(), self.dim, k))
+    }
+
+    /// Returns the free block of dimension `k` with the least base among those that do not overlap
+    /// another block, which may be free or held. Takes nothing.
+    ///
+    /// # Errors
+    ///
+    /// The first of these that applies: `BadDimension` (of one of them), `BadBase`, `NoRoom`.
+    pub fn first_apart(&self, k: u32, avoid: Region) -> Result<Region, FitError> {
+        block(ffi::first_apart(self.memory.bytes(), self.dim, k, avoid.base, avoid.dim))
+    }
+
+    /// Returns the held block that has this processor.
+    ///
+    /// # Errors
+    ///
+    /// The first of these that applies: `BadBase` (no such processor), `NothingHeld` (it is free).
+    pub fn block_with(&self, processor: u64) -> Result<Region, FitError> {
+        block(ffi::block_with(self.memory.bytes(), self.dim, processor))
     }
 
     /// Returns whether this is an aligned block of the machine whose processors are all free.
-    pub fn is_free(&self, region: Region) -> bool {
-        fit_ffi::is_free(self.bits.as_ref(), self.dim, region.base, region.dim)
+    #[must_use]
+    pub fn is_free(&self, block: Region) -> bool {
+        ffi::is_free(self.memory.bytes(), self.dim, block.base, block.dim)
+    }
+
+    /// Returns the free block of the largest dimension that has one, and of these the one with the
+    /// least base. Returns `None` if each processor is held. Takes nothing.
+    #[must_use]
+    pub fn largest(&self) -> Option<Region> {
+        block(ffi::largest(self.memory.bytes(), self.dim)).ok()
     }
 
     /// Returns how many blocks of dimension `k` are free: 0 if `k` is above the machine's
     /// dimension.
-    pub fn free_regions(&self, k: u32) -> u64 {
-        fit_ffi::free_regions(self.bits.as_ref(), self.dim, k)
+    #[must_use]
+    pub fn free_blocks(&self, k: u32) -> u64 {
+        ffi::free_blocks(self.memory.bytes(), self.dim, k)
     }
 
-    /// Returns the first free block of the largest dimension that has one, or `None` if each
-    /// processor is held. Takes nothing.
-    pub fn largest_free(&self) -> Option<Region> {
-        let answer = fit_ffi::largest(self.bits.as_ref(), self.dim);
-        (answer.code == ffi::DONE).then(|| answer.region())
+    /// Counts what is free and what is held.
+    #[must_use]
+    pub fn occupancy(&self) -> Occupancy {
+        let answer = ffi::occupancy(self.memory.bytes(), self.dim);
+        let largest = answer.has_free.then_some(answer.largest);
+        Occupancy { free: answer.free, held: answer.held, largest }
+    }
+
+    /// Returns the image of the machine, for a file or another process.
+    #[must_use]
+    pub fn image(&self) -> &[u8] {
+        self.memory.bytes()
     }
 }
 
-impl<B> FirstFit<B> {
+impl<M> FirstFit<M> {
     /// Returns the dimension of the machine.
+    #[must_use]
     pub fn dim(&self) -> u32 {
         self.dim
     }
-
-    /// Returns the machine's memory. [`FirstFit::resume`] makes a machine of it again.
-    pub fn into_bits(self) -> B {
-        self.bits
-    }
 }
 
-/// Returns nothing if an open succeeded, or why it was refused.
-fn opened(code: u32) -> Result<(), OpenError> {
+/// Returns the part of the memory that an image of this dimension has.
+fn placed(memory: &mut [u8], dim: u32) -> Result<&mut [u8], FitError> {
+    if dim > MAX_DIM {
+        return Err(FitError::BadDimension);
+    }
+    if memory.as_ptr().align_offset(8) != 0 {
+        return Err(FitError::BadSize);
+    }
+    memory.get_mut(..image_bytes(dim)).ok_or(FitError::BadSize)
+}
+
+/// Returns nothing if a call succeeded, or why it was refused.
+fn done(code: u32) -> Result<(), FitError> {
     match code {
         ffi::DONE => Ok(()),
-        ffi::BAD_DIMENSION => Err(OpenError::BadDimension),
-        fit_ffi::BAD_SIZE => Err(OpenError::TooSmall),
-        code => unreachable!("an open has no code {code}"),
+        ffi::NO_ROOM => Err(FitError::NoRoom),
+        ffi::BAD_DIMENSION => Err(FitError::BadDimension),
+        ffi::BAD_BASE => Err(FitError::BadBase),
+        ffi::TAKEN => Err(FitError::Taken),
+        ffi::NOTHING_HELD => Err(FitError::NothingHeld),
+        ffi::NOT_HALVES => Err(FitError::NotHalves),
+        ffi::BAD_SIZE => Err(FitError::BadSize),
+        ffi::BAD_IMAGE => Err(FitError::BadImage),
+        code => unreachable!("first fit has no code {code}"),
     }
 }
 
-/// Returns the block that a take got, or why it was refused.
-fn taken(answer: Answer) -> Result<Region, TakeError> {
-    match answer.code {
-        ffi::DONE => Ok(answer.region()),
-        ffi::BAD_DIMENSION => Err(TakeError::BadDimension),
-        ffi::BAD_BASE => Err(TakeError::BadBase),
-        ffi::NO_SUBCUBE => Err(TakeError::NoSubcube),
-        code => unreachable!("a take has no code {code}"),
-    }
+/// Returns the block of an answer, or why the call was refused.
+fn block(answer: Answer) -> Result<Region, FitError> {
+    done(answer.code)?;
+    Ok(Region { base: answer.base, dim: answer.dim })
 }
 
-impl<B> fmt::Debug for FirstFit<B> {
+impl<M> fmt::Debug for FirstFit<M> {
     fn fmt(&self, f: &mut fmt::Formatter<'_>) -> fmt::Result {
         f.debug_struct("FirstFit").field("dim", &self.dim).finish_non_exhaustive()
     }
 }
 
-impl fmt::Display for OpenError {
-    fn fmt(&self, f: &mut fmt::Formatter<'_>) -> fmt::Result {
-        match self {
-            OpenError::BadDimension => write!(f, "the dimension is past {MAX_DIM}"),
-            OpenError::TooSmall => f.write_str("the memory has too few places for the processors"),
-        }
-    }
-}
-
-impl fmt::Display for TakeError {
+impl fmt::Display for FitError {
     fn fmt(&self, f: &mut fmt::Formatter<'_>) -> fmt::Result {
         f.write_str(match self {
-            TakeError::BadDimension => "the dimension is past that of the machine",
-            TakeError::BadBase => "no subcube of this dimension begins there",
-            TakeError::NoSubcube => "no free subcube of this dimension",
+            FitError::NoRoom => "a part of each block of this dimension is in use",
+            FitError::BadDimension => "the dimension is too large, or the block has no halves",
+            FitError::BadBase => "no block of this dimension begins at this processor",
+            FitError::Taken => "a part of the block is in use",
+            FitError::NothingHeld => "no such block is held",
+            FitError::NotHalves => "the two halves are not both held as one block each",
+            FitError::BadSize => "the memory is too small, or not at a multiple of 8",
+            FitError::BadImage => "the bytes are not a sound image of this dimension",
         })
     }
 }
 
-impl fmt::Display for ReleaseError {
-    fn fmt(&self, f: &mut fmt::Formatter<'_>) -> fmt::Result {
-        f.write_str(match self {
-            ReleaseError::BadDimension => "the dimension is past that of the machine",
-            ReleaseError::BadBase => "no subcube of this dimension begins there",
-            ReleaseError::NothingHeld => "a processor of the subcube is free already",
-        })
-    }
-}
-
-impl Error for OpenError {}
-impl Error for TakeError {}
-impl Error for ReleaseError {}
+impl Error for FitError {}

@@ -54,14 +54,10 @@ fn must_lack(left_out: &[&str], types: &[(&str, Traits)]) {
 fn of_machines() -> Vec<(&'static str, Traits)> {
     let found = traits![
         cubejobs::Region,
-        cubejobs::Machine,
-        cubejobs::BadDimension,
-        cubejobs::TakeError,
-        cubejobs::ReleaseError,
-        fit::FirstFit<Vec<bool>>,
-        fit::OpenError,
-        fit::TakeError,
-        fit::ReleaseError,
+        fit::FirstFit<fit::Owned>,
+        fit::Owned,
+        fit::FitError,
+        fit::Occupancy,
         rounds::Shape,
         rounds::Collective,
         rounds::CollectiveError,
@@ -114,6 +110,7 @@ fn each_type_has_its_auto_traits() {
     must_lack(&[], &of_machines());
     must_lack(&[], &of_lanes());
     must_lack(&["UnwindSafe"], &of_running_jobs());
+    must_lack(&["UnwindSafe"], &traits![fit::FirstFit<&'static mut [u8]>,]);
     // A payload that a job has is as it is elsewhere.
     must_lack(
         &["Sync", "RefUnwindSafe"],
@@ -131,6 +128,7 @@ fn no_public_type_is_left_out() {
         ("cubejobs", include_str!("../src/lib.rs")),
         ("cubejobs", include_str!("../src/region.rs")),
         ("fit", include_str!("../src/fit.rs")),
+        ("fit", include_str!("../src/fit_memory.rs")),
         ("rounds", include_str!("../src/rounds.rs")),
         ("regions", include_str!("../src/regions.rs")),
         ("regions", include_str!("../src/own_handle.rs")),

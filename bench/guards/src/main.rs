@@ -30,7 +30,7 @@ fn time(threads: u32, turn: impl Fn(u32) -> bool + Sync) -> f64 {
 fn main() {
     let machine = Machine::new(DIM).unwrap();
     let shared = Arc::new(Machine::new(DIM).unwrap());
-    let locked = Mutex::new(FirstFit::new(vec![false; 1 << DIM], DIM).unwrap());
+    let locked = Mutex::new(FirstFit::new(DIM).unwrap());
     for threads in [1, 4] {
         let mut times = [const { Vec::new() }; 3];
         for _ in 0..ROUNDS {

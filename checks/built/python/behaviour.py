@@ -169,14 +169,93 @@ def machines_show_what_they_hold():
         must((repr(machine), repr(block)) == (f"{name}(dim=4, closed)", "Block(given back)"), f"{machine}, {block}")
 
 
-def nothing_is_copied():
+def what_has_handles_is_not_copied():
     for make in MACHINES:
         machine = make(2)
         block = machine.take(1)
-        for it in (machine, block):
+        for it in (machine, block) if make is Regions else (block,):
             for call in (copy.copy, copy.deepcopy, pickle.dumps):
                 raises(TypeError, call, it)
         must(pickle.loads(pickle.dumps(block.region)) == Region(0, 1), "a region is sent as another one")
+
+
+def sent(machine):
+    return pickle.loads(pickle.dumps(machine))
+
+
+def a_copy_of_first_fit_is_another_machine():
+    for make in (copy.copy, copy.deepcopy, sent, lambda it: FirstFit.from_image(it.dim, it.image())):
+        for dim in range(5):
+            machine = FirstFit(dim)
+            blocks = [machine.take(it) for it in range(dim)]
+            other = make(machine)
+            must(other.held() == machine.held() == [it.region for it in blocks], f"{other} holds {other.held()}")
+            must(other.occupancy() == machine.occupancy(), f"{other.occupancy()}, and not {machine.occupancy()}")
+            first = machine.take(0)
+            must(other.take(0).region == first.region, f"{other} does not give {first}")
+            for block in blocks:
+                raises(NotHeld, other.release, block)
+                other.release(block.region)
+            other.release(first.region)
+            must(other.take(dim).region == (0, dim), f"{other} is not whole")
+            must(len(machine.held()) == len(blocks) + 1, f"{machine} has {machine.held()}")
+
+
+def a_closed_machine_is_not_copied():
+    machine = FirstFit(3)
+    machine.close()
+    for call in (copy.copy, copy.deepcopy, pickle.dumps, FirstFit.image):
+        raises(ValueError, call, machine)
+
+
+def damaged_images_and_pickles_are_refused():
+    machine = FirstFit(3)
+    machine.take(0)
+    machine.take(1)
+    image, pickled = machine.image(), pickle.dumps(machine)
+    must(len(image) == 112 and pickled.count(image) == 1, f"{len(image)} bytes")
+    begin = pickled.index(image)
+    for at in range(len(image)):
+        for value in {0, 1, 255, image[at] ^ 1, (image[at] + 1) % 256} - {image[at]}:
+            changed = bytes([*image[:at], value, *image[at + 1 :]])
+            raises(ValueError, FirstFit.from_image, 3, changed)
+            raises(ValueError, pickle.loads, pickled[:begin] + changed + pickled[begin + len(image) :])
+    for dim, bad in ((2, image), (4, image), (-1, image), (21, image), (3, image[:-1]), (3, image + b"\0"), (3, b"")):
+        raises(ValueError, FirstFit.from_image, dim, bad)
+    must(FirstFit.from_image(3, image).held() == machine.held(), "the image itself is refused")
+
+
+def first_fit_looks_and_takes_nothing():
+    machine = FirstFit(4)
+    four, one = machine.take(2), machine.take(0)
+    must((machine.first(0), machine.first(2), machine.first(4)) == ((5, 0), (8, 2), None), f"{machine.first(2)}")
+    for avoid in (Region(8, 3), Region(0, 4), four):
+        wanted = {(8, 3): (6, 1), (0, 4): None, (0, 2): (6, 1)}[avoid.region]
+        must(machine.first_apart(1, avoid) == wanted, f"{machine.first_apart(1, avoid)} apart from {avoid}")
+    found = [machine.block_with(it) for it in range(6)]
+    must(found == [four.region] * 4 + [one.region, None], f"{found}")
+    must(machine.largest() == (8, 3) and machine.is_free(8, 3) and not machine.is_free(4, 1), f"{machine.largest()}")
+    for call, bad in ((machine.first, (5,)), (machine.first, (-1,)), (machine.first_apart, (5, four)),
+                      (machine.first_apart, (0, Region(1, 1))), (machine.first_apart, (0, Region(0, 5))),
+                      (machine.block_with, (16,)), (machine.block_with, (-1,)), (machine.free_blocks, (5,))):
+        raises(ValueError, call, *bad)
+    must(machine.held() == [four.region, one.region], f"{machine.held()}")
+
+
+def regions_are_split_and_joined():
+    for make in MACHINES:
+        machine = make(3)
+        block = machine.take_at(0, 2)
+        upper = machine.split(block.region)
+        must((block.region, upper.region) == ((0, 1), (2, 1)), f"{make.__name__}: {block}, {upper}")
+        raises(NotHeld, machine.split, Region(0, 2))
+        raises(ValueError, machine.split, Region(1, 1))
+        raises(ValueError, machine.join, upper.region, block.region)
+        machine.join(Region(0, 1), upper)
+        raises(NotHeld, machine.join, block, upper)
+        must(machine.held() == [(0, 2)] and block.region == (0, 2), f"{make.__name__}: {machine.held()}")
+        block.release()
+        must(machine.take(3).region == (0, 3), f"{make.__name__} is not whole")
 
 
 def a_block_keeps_its_machine():

@@ -1,6 +1,8 @@
 """What the Python module promises of processes, in small programs: `python3 forks.py NAME` runs one."""
+import copy
 import multiprocessing
 import os
+import pickle
 import signal
 import sys
 import threading
@@ -48,9 +50,12 @@ def calls_on(machine, block):
     yield from ((machine.take, (0,)), (machine.take_at, (4, 0)), (machine.release, (block,)), (machine.held, ()),
                 (machine.release, (Region(0, 1),)), (machine.occupancy, ()), (machine.close, ()), (leave, (machine,)))
     yield from ((block.release, ()), (block.split, ()), (block.join, (block,)), (leave, (block,)))
+    yield from ((machine.split, (block,)), (machine.join, (block, block)))
     yield from ((getattr, (block, name)) for name in ("region", "base", "dim", "processors"))
     if isinstance(machine, FirstFit):
         yield from ((machine.largest, ()), (machine.is_free, (0, 0)), (machine.free_blocks, (0,)))
+        yield from ((machine.first, (0,)), (machine.first_apart, (0, Region(0, 1))), (machine.block_with, (0,)))
+        yield from ((machine.image, ()), (copy.copy, (machine,)), (pickle.dumps, (machine,)))
 
 
 def a_new_machine_works():
@@ -156,6 +161,15 @@ def take_here(number):
     return number, os.getpid()
 
 
+def give_back_all(machine):
+    """Releases all blocks of a copy. Returns them."""
+    found = machine.held()
+    for region in found:
+        machine.release(region)
+    must(machine.take(machine.dim).region == (0, machine.dim), f"{machine} is not whole")
+    return found
+
+
 def processors_of(region):
     return list(region.processors)
 
@@ -168,8 +182,12 @@ def workers_have_machines_of_their_own(method):
         must([number for number, _ in done] == [*range(16)], f"{done}")
         for machine, block in FOUND.values():
             must(pool.apply(processors_of, (block.region,)) == [0, 1], "a region is sent as another one")
-            for it in (machine, block):
-                raises(TypeError, pool.apply, repr, (it,))
+            raises(TypeError, pool.apply, repr, (block,))
+            if isinstance(machine, FirstFit):
+                must(pool.apply(give_back_all, (machine,)) == [(0, 1)], "a machine is sent as another one")
+            else:
+                raises(TypeError, pool.apply, repr, (machine,))
+            must(machine.held() == [(0, 1)], f"a worker has changed {machine}")
     for machine, block in FOUND.values():
         block.release()
         machine.close()

@@ -7,6 +7,8 @@ Threads share machines over a table of owners. They pass blocks by queues, forge
 machines of others, and leave them by exceptions.
 """
 import collections
+import copy
+import pickle
 import queue
 import random
 import sys
@@ -204,6 +206,17 @@ class Alone:
         self.entries = [it for it in self.entries if it.home is not home]
         self.homes[at] = self.opened(model.kind)
 
+    def copy(self):
+        """Replaces a machine of first fit by a copy. Its blocks are held, and no entry has them."""
+        at = self.random.randrange(len(self.homes))
+        home = machine, model = self.homes[at]
+        if model.kind is FirstFit:
+            make = self.random.choice((copy.copy, copy.deepcopy, lambda it: pickle.loads(pickle.dumps(it))))
+            made = self.expect(None if model.is_open else ValueError, make, machine)
+            if made:
+                self.entries = [it for it in self.entries if it.home is not home]
+                self.homes[at] = made, model
+
     def compare(self):
         machine, model = self.random.choice(self.homes)
         must(machine.held() == model.held(), f"{machine} holds {machine.held()}, and the model {model.held()}")
@@ -225,6 +238,12 @@ class Alone:
         dim = self.random.randint(0, model.dim)
         base = self.random.randrange(len(model.owners)) >> dim << dim
         must(machine.is_free(base, dim) == model.is_free((base, dim)), f"is_free({base}, {dim})")
+        size = self.random.randint(0, model.dim)
+        apart = [it for it in model.free(size) if it + (1 << size) <= base or it >= base + (1 << dim)]
+        looks = (machine.first(size), model.free(size)), (machine.first_apart(size, Region(base, dim)), apart)
+        for found, bases in looks:
+            must(found == ((bases[0], size) if bases else None), f"{machine} finds {found}, and the model {bases[:1]}")
+        must(machine.block_with(base) == model.owners[base], f"block_with({base}), and the model {model.owners[base]}")
 
     def run(self, calls):
         acts = (self.take,) * 6 + (self.take_at,) * 3 + (self.release,) * 6 + (self.split,) * 3 + (self.join,) * 3
@@ -236,7 +255,7 @@ class Alone:
             if self.random.random() < 0.05:
                 self.compare()
             if self.random.random() < 0.02:
-                self.random.choice((self.close, self.close, self.renew))()
+                self.random.choice((self.close, self.close, self.renew, self.copy))()
         for name, refusal in (("take", "NoRoom"), ("take_at", "NoRoom"), ("split", "ValueError"), ("join", "done"),
                               ("join", "NotHeld"), ("join", "ValueError"), ("release", "NotHeld"), ("take", "done"),
                               ("close", "StillHeld"), ("close", "done"), ("take", "ValueError"), ("split", "NotHeld")):

@@ -1,5 +1,6 @@
 """A program of a user, whose types mypy must find right: one function serves both machines."""
-from typing import List, Union
+import copy
+from typing import List, Optional, Union
 
 from cubejobs import Block, FirstFit, Machine, NoRoom, Occupancy, Region, Regions
 
@@ -18,6 +19,17 @@ def width(it: Union[Block, Region]) -> int:
     return len(it.processors) + it.base - it.region.base
 
 
+def plan(machine: FirstFit, dim: int, reserved: Union[Block, Region]) -> Optional[Region]:
+    """Finds a block apart from another one, and takes it in a copy."""
+    other: FirstFit = copy.copy(machine)
+    found = other.first_apart(dim, reserved)
+    if found is None or other.first(dim) is None:
+        return other.largest()
+    other.take_at(*found)
+    kept: FirstFit = FirstFit.from_image(other.dim, other.image())
+    return kept.block_with(found.base)
+
+
 def main() -> None:
     machines: List[Machine] = [Regions(4), FirstFit(4)]
     for machine in machines:
@@ -27,6 +39,10 @@ def main() -> None:
             print(machine, free.held, [width(it) + width(it.region) for it in blocks])
             for block in blocks:
                 same.release(block)
+    exact = FirstFit(4)
+    exact.join(exact.take(1), exact.take(1))
+    upper: Block = exact.split(Region(0, 2))
+    print(plan(exact, 1, upper), exact.is_free(4, 2), exact.free_blocks(0))
     with Regions(1) as regions, regions.take(1) as block:
         print(regions.dim, block.split().region.processors)
 

@@ -75,7 +75,7 @@ class Wheel:
         self.must_pip("install", of)
         home, *loaded = output([self.python, "-c", USE], env=self.env, cwd="/").splitlines()[0].split()
         must(home.startswith(self.work) and "site-packages" in home, f"the module is in {home}")
-        must(loaded == ["libcubejobs_c.so", "libcubejobs_regions.so"], f"the module has loaded {loaded}")
+        must(loaded == ["libcubejobs_fit.so", "libcubejobs_regions.so"], f"the module has loaded {loaded}")
         must(f"Version: {self.version}\n" in self.must_pip("show", "cubejobs"), "pip shows another version")
         used = output([self.python, "-c", USE], env=self.env, cwd="/").splitlines()[1]
         must(used == f"{version.of_sources()} Block(base=0, dim=2) Block(base=0, dim=2) 1", used)
@@ -160,7 +160,7 @@ class Wheel:
         for it in ("python", "release"):
             shutil.copytree(f"{self.clone}/{it}", f"{room}/{it}")
         folder = f"{room}/release/{sysconfig.get_platform()}"
-        put(f"{folder}/libcubejobs_c.so", self.bytes_of(f"{folder}/libcubejobs_c.so") + b"?")
+        put(f"{folder}/libcubejobs_fit.so", self.bytes_of(f"{folder}/libcubejobs_fit.so") + b"?")
         self.refusal(f"{room}/python", "is damaged")
 
     def of_another_version(self):

@@ -1,6 +1,9 @@
 mod alone;
 mod crowd;
 mod events;
+mod fit_calls;
+mod fit_images;
+mod fit_model;
 mod halves;
 mod held;
 mod last;

@@ -1,7 +1,7 @@
 //! The functions of the headers in `include/`, over the erased sources: a library for C and C++ on
 //! any target. It has the same names, structs and rules as the proved archives.
 //!
-//! The modules `exact`, `rounds`, `regions` and `dispatch` are made by `checks/lib/erase.py`. A caller
+//! The modules `fit`, `rounds`, `regions` and `dispatch` are made by `checks/lib/erase.py`. A caller
 //! in C promises what the header says: pointers to whole handles, zeroed before their first use, and
 //! one call at a time with each.
 
@@ -10,9 +10,9 @@ extern crate alloc;
 #[cfg(feature = "dispatch")]
 #[rustfmt::skip]
 mod dispatch;
-#[cfg(feature = "exact")]
+#[cfg(feature = "fit")]
 #[rustfmt::skip]
-mod exact;
+mod fit;
 #[cfg(any(feature = "dispatch", feature = "regions"))]
 #[path = "../../src/place.rs"]
 #[allow(dead_code, unexpected_cfgs)]
@@ -31,7 +31,9 @@ mod slices;
 #[rustfmt::skip]
 mod source;
 
-// C sees a handle as a number and a pointer.
+// C sees a head as bytes, and a handle as a number and a pointer.
+#[cfg(feature = "fit")]
+const _: () = assert!(size_of::<source::fit_tree::Head>() == size_of::<[u32; 24]>());
 #[cfg(feature = "dispatch")]
 const _: () = assert!(size_of::<source::cubejobs_dispatch::Handle>() == size_of::<(u64, *const u8)>());
 #[cfg(feature = "regions")]

@@ -14,10 +14,10 @@ compile_error!("the crate cubejobs needs a processor with atomic accesses of 64 
 
 pub mod collectives;
 pub mod cube_shape;
-pub mod cubejobs_c;
+pub mod cubejobs_fit;
 pub mod cubejobs_rounds;
+pub mod fit_tree;
 pub mod rank_steps;
-pub mod region_bits;
 pub mod release_version;
 
 #[cfg(any(feature = "dispatch", feature = "regions"))]

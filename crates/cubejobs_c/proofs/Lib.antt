@@ -1,2 +1,0 @@
-mod AlignedLemmas
-mod FreeLemmas

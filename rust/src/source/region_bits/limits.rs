@@ -1,5 +1,0 @@
-// Made from crates/region_bits/src/limits.rt by checks/lib/erase.py. Change that file.
-
-/// The largest dimension of a machine whose bits are a slice: it has at most `2^MAX_BITS_DIM`
-/// processors.
-pub const MAX_BITS_DIM: u32 = 20;
