@@ -79,11 +79,6 @@ class Release:
     def bytes_of(self, name):
         return read_bytes(self.folder, name)
 
-    def maker(self, name):
-        """Returns the build of the toolchain that made a file. The libraries may have one of their own."""
-        own = self.said("libraries built by") if name in LIBRARIES + SHARED else ""
-        return own or self.said("built by")
-
     def take(self, files):
         for name, file in files.items():
             put(os.path.join(self.folder, name), read_bytes(file), 0o755 if name == "cubejobs" else 0o644)
@@ -122,8 +117,8 @@ class Release:
         """Returns what is wrong with a release of these sources, and what is not compared since another build made
         other bytes."""
         wrong, skipped = [], []
+        is_other = self.said("built by") not in ("", build_here())
         for fault in self.faults(built):
-            is_other = self.maker(fault.split()[0]) not in ("", build_here())
             (skipped if is_other and DIFFERS in fault else wrong).append(fault)
         return wrong + [*lacking(self.folder)], skipped
 
@@ -247,7 +242,7 @@ def compare(built):
     more, skipped = release.differences(built)
     wrong += more
     if skipped and not wrong:
-        by = f"{' and '.join(sorted({release.maker(name) for name in FILES}))} made release/, and {build_here()} is here"
+        by = f"{release.said('built by')} has made release/ and {build_here()} is here"
         raise Skipped(f"{by}, so what differs is not compared: {len(skipped)} files")
     print(f"release: {len(FILES)} files are {'not all ' if wrong else ''}what these sources make")
     return wrong
