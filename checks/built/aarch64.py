@@ -119,8 +119,8 @@ def programs():
                                  ("regions", regions, ["500"]), ("wait", regions, ["100"]), ("lanes", dispatch, ["500"]),
                                  ("dispatch", dispatch, ["500"]), ("asleep", dispatch, ["300"]), ("jobs", dispatch, ["2000"])):
         yield ffi.Program(ffi.CALLS(name), [library], C, (), words, [EMULATOR])
-    for name, library in (("fit", fit), ("rounds", rounds), ("regions", regions),
-                          ("arena", regions), ("wait", regions), ("lanes", dispatch)):
+    # Not examples/fit.c: the emulator has no robust locks. There the lock of a process that died stays locked for ever.
+    for name, library in (("rounds", rounds), ("regions", regions), ("arena", regions), ("wait", regions), ("lanes", dispatch)):
         yield ffi.Program(f"examples/{name}.c", [library], C, (), (), [EMULATOR], f"examples/{name}.out")
     yield ffi.Program("examples/jobs.cpp", [dispatch], CXX, (), (), [EMULATOR], "examples/jobs.out")
 
