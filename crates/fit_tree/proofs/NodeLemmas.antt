@@ -1,6 +1,8 @@
 -- The nodes of a dimension, their children and parents, and the paths between them.
 use Rattle.std.proofs.Common.{◌≡◌, ℕ, zero, suc, ◌+◌, ◌-◌, ◌*◌, ◌/◌, ◌^◌, ◌<◌, ◌≤◌, ◌⊎◌, inl, inr, refl, sym, ◌∙◌, ap, subst, arith}
-use Rattle.std.proofs.lemmas.Nat.{shr-shr, pow_pos, pow-add}
+use Rattle.std.specs.Prelude.{bit_xor, ◌%◌}
+use Rattle.std.specs.Int.Bits.{xor_zero_r}
+use Rattle.std.proofs.lemmas.Nat.{shr-shr, pow_pos, pow-add, xor_mod, xor_shr}
 use Rattle.std.proofs.lemmas.Bool.{cases_lt}
 use Rattle.std.proofs.Math.Pow.{pow_mono}
 use Rattle.std.proofs.Math.Nat.{div-one}
@@ -111,3 +113,30 @@ OnPath-left v positive = (positive, (1, omega arith))
 
 pub OnPath-right : (v : ℕ) → 0 < v → OnPath v (2 * v + 1)
 OnPath-right v positive = (positive, (1, omega arith))
+
+-- ---- the two children of a node
+
+-- the last bit of a number is another one
+flipped : (v : ℕ) → v % 2 + bit_xor v 1 % 2 ≡ 1
+flipped v = elim (cases_lt (v % 2) 1) [
+  | inl even ↦
+      let none : v % 2 ≡ 0 = omega arith in
+      let bit : bit_xor v 1 % 2 ≡ 1 = xor_mod v 1 1 ∙ ap (λ b. bit_xor b 1) none in
+      omega (arith, none, bit)
+  | inr odd ↦
+      let one : v % 2 ≡ 1 = omega arith in
+      let bit : bit_xor v 1 % 2 ≡ 0 = xor_mod v 1 1 ∙ ap (λ b. bit_xor b 1) one in
+      omega (arith, one, bit)
+]
+
+pub sibling_half : (v : ℕ) → bit_xor v 1 / 2 ≡ v / 2
+sibling_half v = xor_shr v 1 1 ∙ xor_zero_r (v / 2)
+
+pub sibling : (v : ℕ) → ((v ≡ 2 * (v / 2)) × (bit_xor v 1 ≡ 2 * (v / 2) + 1)) ⊎ ((v ≡ 2 * (v / 2) + 1) × (bit_xor v 1 ≡ 2 * (v / 2)))
+sibling v = elim (child_cases v (v / 2) refl) [
+  | inl left ↦ inl (left, omega (arith, left, flipped v, sibling_half v))
+  | inr right ↦ inr (right, omega (arith, right, flipped v, sibling_half v))
+]
+
+pub sibling_inside : (v : ℕ) → bit_xor v 1 ≤ 2 * (v / 2) + 1
+sibling_inside v = omega (arith, sibling_half v)

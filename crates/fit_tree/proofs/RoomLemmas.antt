@@ -26,6 +26,21 @@ pub join_part : (d left right room : ℕ) → IsJoin d left right room → room 
 join_part d left right room (inl whole) other = absurd (other whole.2)
 join_part d left right room (inr part) other = part.0
 
+-- a join is the same from either side
+pub join_swaps : (d left right room : ℕ) → IsJoin d left right room → IsJoin d right left room
+join_swaps d left right room (inl whole) = inl (whole.1, whole.0, whole.2)
+join_swaps d left right room (inr (part, of_left, of_right, positive, is)) =
+    inr (either part, of_right, of_left, positive, from is)
+  where
+    either : (left ≢ d + 2) ⊎ (right ≢ d + 2) → (right ≢ d + 2) ⊎ (left ≢ d + 2)
+    either (inl of_left) = inr of_left
+    either (inr of_right) = inl of_right
+
+    from : (room ≡ left) ⊎ (room ≡ right) ⊎ (room ≡ 1) → (room ≡ right) ⊎ (room ≡ left) ⊎ (room ≡ 1)
+    from (inl same) = inr (inl same)
+    from (inr (inl same)) = inl same
+    from (inr (inr one)) = inr (inr one)
+
 -- what is too little for a dimension is too little in both children
 pub join_less : (d k left right room : ℕ) → k ≤ d → IsJoin d left right room → room < k + 2 → (left < k + 2) × (right < k + 2)
 join_less d k left right room fits (inl whole) less = absurd (omega (arith, whole.2))

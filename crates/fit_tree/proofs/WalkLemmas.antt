@@ -1,6 +1,6 @@
 -- The way down to the first open node, and the way up from a node whose room has changed.
 use Rattle.std.proofs.Common.{◌≡◌, ◌≢◌, ℕ, zero, suc, ◌+◌, ◌-◌, ◌*◌, ◌/◌, ◌^◌, ◌<◌, ◌≤◌, ◌⊎◌, inl, inr, List, length, refl, sym, ◌∙◌, ap, subst, arith}
-use Rattle.std.specs.Prelude.{◌↔◌}
+use Rattle.std.specs.Prelude.{◌↔◌, bit_xor}
 use Rattle.std.proofs.Math.ListN.{set}
 use Rattle.std.proofs.lemmas.List.{get_or-set_same, get_or-set_other, length-set}
 use Rattle.std.proofs.lemmas.Nat.{shr-shr, shr_high}
@@ -10,8 +10,8 @@ use Rattle.cube_shape.specs.Node.{OnPath}
 use Rattle.cube_shape.proofs.PathLemmas.{OnPath-self, OnPath-le, OnPath-up, OnPath-linear, OnPath-parent, OnPath-trans}
 use Rattle.fit_tree.specs.Rooms.{IsJoin, IsNode, IsRight, IsSound, IsSoundBut, room_of}
 use Rattle.fit_tree.specs.InnerNodes.{HasNoTakenAbove, IsOpen}
-use Rattle.fit_tree.proofs.NodeLemmas.{IsNode-in_cube, IsNode-left, IsNode-right, IsNode-parent, IsNode-one, OnPath-left, OnPath-right, steps_up}
-use Rattle.fit_tree.proofs.RoomLemmas.{join_enough, right_at, room_bound, none_open, whole_is_open, children_whole}
+use Rattle.fit_tree.proofs.NodeLemmas.{IsNode-in_cube, IsNode-left, IsNode-right, IsNode-parent, IsNode-one, OnPath-left, OnPath-right, steps_up, sibling, sibling_inside}
+use Rattle.fit_tree.proofs.RoomLemmas.{join_enough, join_swaps, right_at, room_bound, none_open, whole_is_open, children_whole}
 
 -- the root is on the path to each node
 root_steps : (n k w : ℕ) → IsNode n k w → w / 2 ^ (n - k) ≡ 1
@@ -227,6 +227,23 @@ parent_inside n d v inner node =
     let parent = IsNode-parent n d v inner node in
     ((IsNode-in_cube n (suc d) (v / 2) parent).0, (IsNode-in_cube n d (2 * (v / 2) + 1) (IsNode-right n d (v / 2) parent)).1)
 
+-- and so has the other child
+pub sibling_room : (n d v : ℕ) → d < n → IsNode n d v → bit_xor v 1 < 2 ^ (n + 1)
+sibling_room n d v inner node = omega (arith, parent_inside n d v inner node, sibling_inside v)
+
+-- a join of a node's own room and that of the other child
+pub joined_above : (d v own j : ℕ) (rooms : List ℕ) → own ≡ room_of rooms v → IsJoin d own (room_of rooms (bit_xor v 1)) j
+    → IsJoin d (room_of rooms (2 * (v / 2))) (room_of rooms (2 * (v / 2) + 1)) j
+joined_above d v own j rooms is joined =
+    let both : IsJoin d (room_of rooms v) (room_of rooms (bit_xor v 1)) j = subst (λ r. IsJoin d r (room_of rooms (bit_xor v 1)) j) is joined in
+    elim (sibling v) [
+      | inl left ↦
+          subst (λ u. IsJoin d (room_of rooms u) (room_of rooms (2 * (v / 2) + 1)) j) left.0 (subst (λ u. IsJoin d (room_of rooms v) (room_of rooms u) j) left.1 both)
+      | inr right ↦
+          subst (λ u. IsJoin d (room_of rooms (2 * (v / 2))) (room_of rooms u) j) right.0
+          (subst (λ u. IsJoin d (room_of rooms u) (room_of rooms v) j) right.1 (join_swaps d (room_of rooms v) (room_of rooms (bit_xor v 1)) j both))
+    ]
+
 pub Climb-inside : (n d v : ℕ) (old rooms : List ℕ) → Climb n old rooms d v → d < n → (0 < v / 2) × (2 * (v / 2) + 1 < length rooms)
 Climb-inside n d v old rooms climb inner =
     let parent = IsNode-parent n d v inner climb.node in
@@ -249,7 +266,7 @@ module _ (n d v j : ℕ) (old rooms : List ℕ) (climb : Climb n old rooms d v) 
   }
     where
       at : (e u : ℕ) → IsNode n e u → u ≢ 0 → IsRight rooms e u
-      at e u lower positive = elim (cases_eq u (v / 2)) [
+      at e u lower _ = elim (cases_eq u (v / 2)) [
         | inl is ↦
             let dims : suc d ≡ e = IsNode-one n (suc d) e (v / 2) parent (subst (IsNode n e) is lower) in
             subst (λ i. IsRight rooms i u) dims (subst (λ x. IsRight rooms (suc d) x) (sym is)

@@ -1,7 +1,7 @@
 -- Nodes that are free, in terms of the nodes that were taken as one block.
 use Rattle.std.specs.Prelude.{◌≡◌, ◌≢◌, ℕ, ◌+◌, ◌/◌, ◌<◌, ◌≤◌, ◌⊎◌, List}
 use Rattle.cube_shape.specs.Node.{IsInCube, OnPath}
-use Rattle.fit_tree.specs.Rooms.{room_of, IsNode, IsSound}
+use Rattle.fit_tree.specs.Rooms.{room_of, IsNode, IsSound, IsSoundBut}
 
 -- No node above this one was taken as one block.
 abbrev pub HasNoTakenAbove : List ℕ → ℕ → Type 0
@@ -33,9 +33,17 @@ IsTopped rooms d v =
 abbrev pub AreBounded : ℕ → List ℕ → Type 0
 AreBounded n rooms = (d v : ℕ) → IsNode n d v → room_of rooms v ≤ d + 2
 
--- No room is too large. Node `v` of dimension `d` is not wholly free, nor is the one above it.
-pub record HasParts (n d : ℕ) (rooms : List ℕ) (v : ℕ) : Type 0 where
+-- Only the room above node `v` may be wrong. No room is too large, and no node above `v` is taken.
+pub record CanMend (n : ℕ) (rooms : List ℕ) (v : ℕ) : Type 0 where
   pub bounded : AreBounded n rooms
+  pub sound : IsSoundBut n (v / 2) rooms
+  pub open_above : HasNoTakenAbove rooms v
+
+-- In addition, node `v` of dimension `d` is neither taken nor wholly free, nor is the one above it
+-- wholly free.
+pub record HasParts (n d : ℕ) (rooms : List ℕ) (v : ℕ) : Type 0 where
+  pub can : CanMend n rooms v
+  pub used : room_of rooms v ≢ 0
   pub own : room_of rooms v ≢ d + 2
   pub above : d < n → room_of rooms (v / 2) ≢ d + 3
 

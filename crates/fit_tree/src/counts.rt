@@ -1,4 +1,4 @@
-//! The counts of maximal free blocks, and the one function that writes a room.
+//! The counts of maximal free blocks, and writes of a room that keep them right.
 
 ghost use Rattle.std.specs.Prelude.{◌≡◌, ◌≢◌, ℕ, ◌+◌, ◌-◌, ◌*◌, ◌^◌, ◌<◌, ◌≤◌, ◌↔◌, ◌⊎◌, length, slice_index, slice_set, IsTrue};
 ghost use Rattle.region_bits.specs.Count.{IsCount};

@@ -4,11 +4,11 @@ ghost use Rattle.std.specs.Prelude.{◌≡◌, ◌≢◌, ℕ, ◌+◌, ◌-◌,
 ghost use Rattle.cube_shape.specs.Node.{IsInCube, OnPath};
 ghost use Rattle.fit_tree.specs.Rooms.{IsNode, IsSound, IsSoundBut, room_of};
 ghost use Rattle.fit_tree.specs.Image.{AreCounted};
-ghost use Rattle.fit_tree.specs.InnerNodes.{AreBounded, HasNoTakenAbove, HasParts, HasRoom, IsFirstIn, IsOpen};
+ghost use Rattle.fit_tree.specs.InnerNodes.{CanMend, HasNoTakenAbove, HasParts, HasRoom, IsFirstIn, IsOpen};
 
 use crate::counts::{is_part, write_inner};
 use crate::head::COUNT_PLACES;
-use crate::rooms::join;
+use crate::rooms::{join, join_part};
 use cube_shape::MAX_BITMAP_DIM;
 
 /// Returns the first open node of dimension `k`.
@@ -86,18 +86,17 @@ pub(crate) fn mend(counts: &mut [u32; COUNT_PLACES], rooms: &mut [u8], n: u32, k
     requires node { IsNode n k start }
     ensures len { length rooms.new ≡ length rooms.old }
     ensures no_node { room_of rooms.new 0 ≡ room_of rooms.old 0 }
-    ensures counted { AreBounded n rooms.old → IsSoundBut n (start / 2) rooms.old
-        → HasNoTakenAbove rooms.old start
+    ensures counted { CanMend n rooms.old start
         → AreCounted n counts.old rooms.old → AreCounted n counts.new rooms.new }
-    ensures sound { IsSoundBut n (start / 2) rooms.old → HasNoTakenAbove rooms.old start
-        → IsSound n rooms.new }
-    ensures taken { IsSoundBut n (start / 2) rooms.old → HasNoTakenAbove rooms.old start
+    ensures sound { CanMend n rooms.old start → IsSound n rooms.new }
+    ensures taken { CanMend n rooms.old start
         → (u : ℕ) → (room_of rooms.new u ≡ 0) ↔ (room_of rooms.old u ≡ 0) }
 {
     let mut node = start;
+    let mut own = rooms[start];
     for dim in k..n {
+        let room = join(dim, own, rooms[node ^ 1]);
         node /= 2;
-        let room = join(dim, rooms[2 * node], rooms[2 * node + 1]);
         let before = rooms[node];
         if before == room {
             return;
@@ -108,6 +107,7 @@ pub(crate) fn mend(counts: &mut [u32; COUNT_PLACES], rooms: &mut [u8], n: u32, k
             return;
         }
         write_inner(counts, rooms, n, dim + 1, node, room);
+        own = room;
     }
 }
 
@@ -119,21 +119,21 @@ fn mend_parts(rooms: &mut [u8], n: u32, k: u32, start: usize)
     requires node { IsNode n k start }
     ensures len { length rooms.new ≡ length rooms.old }
     ensures no_node { room_of rooms.new 0 ≡ room_of rooms.old 0 }
-    ensures counted { HasParts n k rooms.old start → IsSoundBut n (start / 2) rooms.old
-        → HasNoTakenAbove rooms.old start → (counts : List ℕ)
+    ensures counted { HasParts n k rooms.old start → (counts : List ℕ)
         → AreCounted n counts rooms.old → AreCounted n counts rooms.new }
-    ensures sound { IsSoundBut n (start / 2) rooms.old → HasNoTakenAbove rooms.old start
-        → IsSound n rooms.new }
-    ensures taken { IsSoundBut n (start / 2) rooms.old → HasNoTakenAbove rooms.old start
+    ensures sound { HasParts n k rooms.old start → IsSound n rooms.new }
+    ensures taken { HasParts n k rooms.old start
         → (u : ℕ) → (room_of rooms.new u ≡ 0) ↔ (room_of rooms.old u ≡ 0) }
 {
     let mut node = start;
-    for dim in k..n {
+    let mut own = rooms[start];
+    for _ in k..n {
+        let room = join_part(own, rooms[node ^ 1]);
         node /= 2;
-        let room = join(dim, rooms[2 * node], rooms[2 * node + 1]);
         if rooms[node] == room {
             return;
         }
         rooms[node] = room;
+        own = room;
     }
 }

@@ -1,5 +1,5 @@
 // Made from crates/fit_tree/src/counts.rt by checks/lib/erase.py. Change that file.
-//! The counts of maximal free blocks, and the one function that writes a room.
+//! The counts of maximal free blocks, and writes of a room that keep them right.
 
 use crate::source::fit_tree::head::COUNT_PLACES;
 use crate::source::cube_shape::MAX_BITMAP_DIM;

@@ -13,3 +13,9 @@ pub(crate) fn join(dim: u32, left: u8, right: u8) -> u8 {
         left.max(right).max(1)
     }
 }
+
+/// Returns what `join` returns if one child has the room `own`, and is neither taken nor wholly
+/// free.
+pub(crate) fn join_part(own: u8, other: u8) -> u8 {
+    own.max(other)
+}

@@ -3,7 +3,7 @@
 
 use crate::source::fit_tree::counts::{is_part, write_inner};
 use crate::source::fit_tree::head::COUNT_PLACES;
-use crate::source::fit_tree::rooms::join;
+use crate::source::fit_tree::rooms::{join, join_part};
 use crate::source::cube_shape::MAX_BITMAP_DIM;
 
 /// Returns the first open node of dimension `k`.
@@ -50,9 +50,10 @@ pub(crate) fn is_open(rooms: &[u8], n: u32, k: u32, node: usize) -> bool {
 /// Makes the rooms above a node right again. Its own room has changed.
 pub(crate) fn mend(counts: &mut [u32; COUNT_PLACES], rooms: &mut [u8], n: u32, k: u32, start: usize) {
     let mut node = start;
+    let mut own = rooms[start];
     for dim in k..n {
+        let room = join(dim, own, rooms[node ^ 1]);
         node /= 2;
-        let room = join(dim, rooms[2 * node], rooms[2 * node + 1]);
         let before = rooms[node];
         if before == room {
             return;
@@ -63,6 +64,7 @@ pub(crate) fn mend(counts: &mut [u32; COUNT_PLACES], rooms: &mut [u8], n: u32, k
             return;
         }
         write_inner(counts, rooms, n, dim + 1, node, room);
+        own = room;
     }
 }
 
@@ -70,12 +72,14 @@ pub(crate) fn mend(counts: &mut [u32; COUNT_PLACES], rooms: &mut [u8], n: u32, k
 // changed, and neither it nor the one above it is wholly free or taken.
 fn mend_parts(rooms: &mut [u8], n: u32, k: u32, start: usize) {
     let mut node = start;
-    for dim in k..n {
+    let mut own = rooms[start];
+    for _ in k..n {
+        let room = join_part(own, rooms[node ^ 1]);
         node /= 2;
-        let room = join(dim, rooms[2 * node], rooms[2 * node + 1]);
         if rooms[node] == room {
             return;
         }
         rooms[node] = room;
+        own = room;
     }
 }

@@ -3,8 +3,8 @@ use Rattle.std.proofs.Common.{◌≡◌, ◌<◌, inr, length, sym, ◌∙◌, a
 use Rattle.std.proofs.lemmas.List.{get_or-set_same, length-set}
 use Rattle.fit_tree.specs.Rooms.{room_of}
 use Rattle.fit_tree.proofs.NodeLemmas.{IsNode-in_cube}
-use Rattle.fit_tree.proofs.ImageLemmas.{room_elsewhere, set_begins}
-use Rattle.fit_tree.proofs.PartLemmas.{set_bounded}
+use Rattle.fit_tree.proofs.ImageLemmas.{room_elsewhere}
+use Rattle.fit_tree.proofs.PartLemmas.{set_mends}
 use Rattle.fit_tree.proofs.writes.set_room.Goals as goal
 
 pub mend-requires-clause-rooms : goal.mend-requires-clause-rooms
@@ -20,27 +20,28 @@ returns-clause-no_node c =
 
 pub returns-clause-counted : goal.returns-clause-counted
 returns-clause-counted c = λ can counted.
-    let begins = set_begins c.args.n c.args.k c.args.node c.args.room c.args.rooms.now c.write_own.new.rooms c.write_own.ensures.written c.requires.node c.requires.room can in
     let within : c.args.node < length c.args.rooms.now = omega (arith, (IsNode-in_cube c.args.n c.args.k c.args.node c.requires.node).1, c.requires.rooms) in
-    let bounded = set_bounded c.args.n c.args.k c.args.node c.args.room c.args.rooms.now c.write_own.new.rooms c.write_own.ensures.written c.requires.node c.requires.room can within in
-    c.mend.ensures.counted bounded begins.0 begins.1 (c.write_own.ensures.counted (inr (can.below, c.requires.room)) counted)
+    let mends = set_mends c.args.n c.args.k c.args.node c.args.room c.args.rooms.now c.write_own.new.rooms c.write_own.ensures.written c.requires.node c.requires.room can within in
+    c.mend.ensures.counted mends (c.write_own.ensures.counted (inr (can.below, c.requires.room)) counted)
 
 pub returns-clause-sound : goal.returns-clause-sound
 returns-clause-sound c = λ can.
-    let begins = set_begins c.args.n c.args.k c.args.node c.args.room c.args.rooms.now c.write_own.new.rooms c.write_own.ensures.written c.requires.node c.requires.room can in
-    c.mend.ensures.sound begins.0 begins.1
+    let within : c.args.node < length c.args.rooms.now = omega (arith, (IsNode-in_cube c.args.n c.args.k c.args.node c.requires.node).1, c.requires.rooms) in
+    let mends = set_mends c.args.n c.args.k c.args.node c.args.room c.args.rooms.now c.write_own.new.rooms c.write_own.ensures.written c.requires.node c.requires.room can within in
+    c.mend.ensures.sound mends
 
 pub returns-clause-others : goal.returns-clause-others
 returns-clause-others c = λ can u other.
-    let begins = set_begins c.args.n c.args.k c.args.node c.args.room c.args.rooms.now c.write_own.new.rooms c.write_own.ensures.written c.requires.node c.requires.room can in
-    let kept = c.mend.ensures.taken begins.0 begins.1 u in
+    let within : c.args.node < length c.args.rooms.now = omega (arith, (IsNode-in_cube c.args.n c.args.k c.args.node c.requires.node).1, c.requires.rooms) in
+    let mends = set_mends c.args.n c.args.k c.args.node c.args.room c.args.rooms.now c.write_own.new.rooms c.write_own.ensures.written c.requires.node c.requires.room can within in
+    let kept = c.mend.ensures.taken mends u in
     let same = room_elsewhere c.args.rooms.now c.write_own.new.rooms c.args.node c.args.room u c.write_own.ensures.written other in
     (λ is. sym same ∙ kept.0 is, λ is. kept.1 (same ∙ is))
 
 pub returns-clause-own : goal.returns-clause-own
 returns-clause-own c = λ can.
-    let begins = set_begins c.args.n c.args.k c.args.node c.args.room c.args.rooms.now c.write_own.new.rooms c.write_own.ensures.written c.requires.node c.requires.room can in
     let within : c.args.node < length c.args.rooms.now = omega (arith, (IsNode-in_cube c.args.n c.args.k c.args.node c.requires.node).1, c.requires.rooms) in
+    let mends = set_mends c.args.n c.args.k c.args.node c.args.room c.args.rooms.now c.write_own.new.rooms c.write_own.ensures.written c.requires.node c.requires.room can within in
     let own : room_of c.write_own.new.rooms c.args.node ≡ c.args.room = ap (λ r. room_of r c.args.node) c.write_own.ensures.written ∙ get_or-set_same c.args.rooms.now c.args.node c.args.room 0 within in
-    let kept = c.mend.ensures.taken begins.0 begins.1 c.args.node in
+    let kept = c.mend.ensures.taken mends c.args.node in
     (λ is. sym own ∙ kept.0 is, λ is. kept.1 (own ∙ is))
