@@ -1,4 +1,3 @@
 mod BitLemmas
 pub mod ScanLemmas
 pub mod RepresentsLemmas
-mod CountLemmas

@@ -1,5 +1,5 @@
 -- The bits of blocks, and how a call changes them. A set bit means that its processor is held.
-use Rattle.std.specs.Prelude.{◌≡◌, ℕ, ◌-◌, ◌^◌, ◌<◌, ◌≤◌, Bool, true, false, List, length}
+use Rattle.std.specs.Prelude.{◌≡◌, ℕ, ◌-◌, ◌^◌, ◌<◌, ◌≤◌, Bool, false, List, length}
 use Rattle.cube_shape.specs.declared.region.Region.{Region}
 use Rattle.cube_shape.specs.Region.{Covers, block}
 use Rattle.region_bits.specs.declared.limits.TheConstants.{MAX_BITS_DIM}
@@ -12,10 +12,6 @@ HasBits n bits = (n ≤ MAX_BITS_DIM) × (2 ^ n ≤ length bits)
 -- No bit of the block is set. Source: Chen and Shin 1987.
 abbrev pub IsClear : List Bool → Region → Type 0
 IsClear bits r = (p : ℕ) → Covers r p → bit_of bits p ≡ false
-
--- All bits of the block are set. Source: Chen and Shin 1987.
-abbrev pub IsSet : List Bool → Region → Type 0
-IsSet bits r = (p : ℕ) → Covers r p → bit_of bits p ≡ true
 
 -- The number `m` is the least such that block `(m, k)` is clear. Source: Chen and Shin 1987.
 pub record IsFirstClear (n k : ℕ) (bits : List Bool) (m : ℕ) : Type 0 where

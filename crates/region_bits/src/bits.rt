@@ -1,9 +1,9 @@
 //! Searching and writing the bits of blocks.
 
-ghost use Rattle.std.specs.Prelude.{◌≡◌, ℕ, ◌+◌, ◌-◌, ◌^◌, ◌<◌, ◌≤◌, ◌↔◌, length, true, false, IsTrue, IfSome, IfNone};
-ghost use Rattle.cube_shape.specs.Region.{Covers, IsAligned, block};
+ghost use Rattle.std.specs.Prelude.{◌≡◌, ℕ, ◌+◌, ◌^◌, ◌<◌, ◌≤◌, ◌↔◌, length, false, IsTrue, IfSome, IfNone};
+ghost use Rattle.cube_shape.specs.Region.{IsAligned, block};
 ghost use Rattle.region_bits.specs.Represents.{bit_of};
-ghost use Rattle.region_bits.specs.Bits.{HasNoClear, IsClear, IsFirstClear, IsSet, Writes};
+ghost use Rattle.region_bits.specs.Bits.{HasNoClear, IsClear, IsFirstClear, Writes};
 
 use crate::limits::MAX_BITS_DIM;
 use cube_shape::Region;
@@ -44,33 +44,6 @@ fn none_set(bits: &[bool]) -> bool
     ensures { IsTrue result ↔ ((i : ℕ) → i < length bits.now → bit_of bits.now i ≡ false) }
 {
     bits.iter().all(|taken| !*taken)
-}
-
-/// Returns whether all bits of a block are set.
-pub fn is_set(bits: &[bool], n: u32, region: Region) -> bool
-    requires machine { n ≤ MAX_BITS_DIM }
-    requires bits { 2 ^ n ≤ length bits.now }
-    requires region { IsAligned n region }
-    ensures { IsTrue result ↔ IsSet bits.now region }
-{
-    let (start, end) = bit_range(n, region);
-    all_set(&bits[start..end])
-}
-
-// Returns whether each of these bits is set.
-fn all_set(bits: &[bool]) -> bool
-    ensures { IsTrue result ↔ ((i : ℕ) → i < length bits.now → bit_of bits.now i ≡ true) }
-{
-    bits.iter().all(|taken| *taken)
-}
-
-/// Clears all bits.
-#[tactic(auto, using(std::proofs::lemmas::List::get_or_past))]
-pub fn clear_all(bits: &mut [bool])
-    ensures len { length bits.new ≡ length bits.old }
-    ensures clear { (p : ℕ) → bit_of bits.new p ≡ false }
-{
-    bits.fill(false);
 }
 
 /// Sets the bits of a block, or clears them, as `taken` says. No other bit changes.

@@ -10,12 +10,10 @@
 #![tactic(auto)]
 
 mod bits;
-mod counts;
 mod limits;
 mod regions;
 
-pub use bits::{first_clear, is_clear, is_set, write};
-pub use counts::{count_clear, largest_clear};
+pub use bits::{first_clear, is_clear, write};
 pub use cube_shape::{MAX_DIM, Region};
 pub use limits::MAX_BITS_DIM;
-pub use regions::{clear_all, clear_region, count_free, first_fit, is_free, set_region};
+pub use regions::{clear_region, first_fit, set_region};

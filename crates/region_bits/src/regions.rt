@@ -1,11 +1,9 @@
-ghost use Rattle.std.specs.Prelude.{◌≡◌, ℕ, ◌-◌, ◌^◌, ◌<◌, ◌≤◌, ◌↔◌, length, None, IfSome, IfNone, IsTrue};
+ghost use Rattle.std.specs.Prelude.{◌≡◌, ℕ, ◌^◌, ◌≤◌, length, IfSome, IfNone};
 ghost use Rattle.cube_shape.specs.Region.{IsAligned, block};
-ghost use Rattle.cube_shape.specs.Machine.{Gives, HasNoFit, Holdings, IsFirstFit, IsFree, TakesBack};
-ghost use Rattle.region_bits.specs.Count.{IsCount};
+ghost use Rattle.cube_shape.specs.Machine.{Gives, HasNoFit, Holdings, IsFirstFit, TakesBack};
 ghost use Rattle.region_bits.specs.Represents.{Represents};
 
 use crate::bits;
-use crate::counts::count_clear;
 use crate::limits::MAX_BITS_DIM;
 use cube_shape::Region;
 
@@ -24,37 +22,6 @@ pub fn first_fit(bits: &[bool], n: u32, k: u32) -> Option<Region>
         → HasNoFit n k held) }
 {
     bits::first_clear(bits, n, k)
-}
-
-/// Returns whether a block overlaps no held block. The bits represent what is held.
-pub fn is_free(bits: &[bool], n: u32, region: Region) -> bool
-    requires machine { n ≤ MAX_BITS_DIM }
-    requires bits { 2 ^ n ≤ length bits.now }
-    requires region { IsAligned n region }
-    ensures { (held : Holdings) → Represents n held bits.now
-        → IsTrue result ↔ IsFree held region }
-{
-    bits::is_clear(bits, n, region)
-}
-
-/// Returns how many blocks of dimension `k` overlap no held block. The bits represent what is held.
-pub fn count_free(bits: &[bool], n: u32, k: u32) -> u64
-    requires machine { n ≤ MAX_BITS_DIM }
-    requires dim { k ≤ n }
-    requires bits { 2 ^ n ≤ length bits.now }
-    ensures { (held : Holdings) → Represents n held bits.now
-        → IsCount (λ m. IsFree held (block k m)) (2 ^ (n - k)) result }
-{
-    count_clear(bits, n, k)
-}
-
-/// Clears the bits of a machine in which no station holds a block.
-pub fn clear_all(bits: &mut [bool])
-    ensures len { length bits.new ≡ length bits.old }
-    ensures free { (n : ℕ) (held : Holdings) → n ≤ MAX_BITS_DIM → 2 ^ n ≤ length bits.old
-        → ((s : ℕ) → held s ≡ None) → Represents n held bits.new }
-{
-    bits::clear_all(bits);
 }
 
 /// Sets the bits of a block that a station gets.

@@ -6,7 +6,7 @@ ghost use Rattle.std.specs.Prelude.{◌≡◌, ◌≤◌, length};
 use super::expect::{expect_all, expect_texts};
 use alloc_bits::{AllocBits, NoSubcube, NothingHeld};
 use cube_shape::{MAX_DIM, MAX_STATIONS, Region};
-use region_bits::{clear_all, clear_region, first_fit, set_region};
+use region_bits::{clear_region, first_fit, set_region};
 use std::alloc::Global;
 use std::process::Abort;
 
@@ -36,9 +36,8 @@ fn take_pair_back(bits: &mut [bool])
 
 #[test]
 fn the_first_fit_is_the_first_clear_region(rt: HostRuntime) {
-    let mut bits = [true; 8];
-    let full = fits(&bits, 0, None);
-    clear_all(&mut bits);
+    let full = fits(&[true; 8], 0, None);
+    let mut bits = [false; 8];
     let clear = fits(&bits, 3, Some(Region { base: 0, dim: 3 }));
     give_pair(&mut bits);
     let behind = fits(&bits, 0, Some(Region { base: 2, dim: 0 }));
