@@ -1,0 +1,7 @@
+pub mod ShowsLemmas
+pub mod NoteLemmas
+pub mod LatestLemmas
+pub mod ChangeLemmas
+pub mod SameLemmas
+pub mod PartLemmas
+pub mod CountLemmas

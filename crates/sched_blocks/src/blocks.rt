@@ -1,0 +1,301 @@
+//! The blocks of a scheduler as a value.
+
+ghost use Rattle.std.specs.Prelude.{◌≡◌, ℕ, ◌+◌, ◌-◌, ◌^◌, ◌<◌, ◌≤◌, ◌↔◌, Some, IsTrue, IfOk, IfSome, IfNone};
+ghost use Rattle.cube_shape.specs.declared.region.Region.{Region as HeldRegion};
+ghost use Rattle.cube_shape.specs.Region.{IsAligned, block};
+ghost use Rattle.cube_shape.specs.Falling.{IsHeld};
+ghost use Rattle.region_bits.specs.Count.{IsCount};
+ghost use Rattle.sched_law.specs.declared.job.SchedWait.{SchedWait as WaitData};
+ghost use Rattle.sched_law.specs.declared.job.SchedRun.{SchedRun as RunData};
+ghost use Rattle.sched_law.specs.State.{Sched, IsVacant, Runs, Waits, end_after, finish, held, initial, occupy, start, vacate};
+ghost use Rattle.sched_law.specs.Policy.{Chooses, HasNone, HasUsable, HasUsableIn, IsFirst, IsLatest, IsVacantBeside};
+ghost use Rattle.sched_blocks.specs.Shows.{Shows};
+
+use crate::nodes::{lower, node_of, note_idle, note_use, upper};
+use crate::parts::{has_free_in, largest_apart};
+use block_trees::{end_at, is_earlier, open};
+use cube_shape::{MAX_BITMAP_DIM, Region};
+use fit_tree::FitTree;
+use std::alloc::{AllocError, Global};
+use std::marker::Model;
+
+/// The blocks of a scheduler for one thread: those in use, by a job or out of service, and the ends
+/// of the jobs.
+///
+/// Only `new` allocates memory, about `28 * 2^n` bytes.
+#[derive(Debug, Drop)]
+pub struct Blocks {
+    dim: u32,
+    used: FitTree,
+    out: FitTree,
+    ends: Vec<u64>,
+    busy: Vec<u32>,
+}
+
+impl Model for Blocks {
+    ghost use Rattle.sched_blocks.specs.Layout.{Layout, IsShaped, layout_code};
+
+    ghost Value = { Layout };
+
+    ghost coded = { layout_code };
+
+    ghost view = { λ a. record {
+      dim = a.dim;
+      used = a.used;
+      out = a.out;
+      ends = a.ends.items;
+      busy = a.busy.items;
+    } };
+
+    ghost invariant = { λ a. IsShaped (record {
+      dim = a.dim;
+      used = a.used;
+      out = a.out;
+      ends = a.ends.items;
+      busy = a.busy.items;
+    }) };
+}
+
+impl Blocks {
+    /// Creates the blocks of a machine of dimension `n`, of which none is in use.
+    pub fn new(alloc: Global, n: u32) -> Result<Self, AllocError>
+        requires { n ≤ MAX_BITMAP_DIM }
+        ensures dim { IfOk result (λ made. made.dim ≡ n) }
+        ensures shows { IfOk result (λ made. (patience : ℕ) → Shows (initial n patience) made) }
+    {
+        let used = FitTree::new(alloc, n)?;
+        let out = FitTree::new(alloc, n)?;
+        let mut ends = vec![in alloc; 0u64; 2 << n]?;
+        let mut busy = vec![in alloc; 0u32; 2 << n]?;
+        open(&mut ends, &mut busy);
+        Ok(Blocks {
+            dim: n,
+            used,
+            out,
+            ends,
+            busy,
+        })
+    }
+
+    /// Returns the dimension of the machine.
+    pub fn dim(&self) -> u32
+        ensures dim { result ≡ self.now.dim }
+        ensures limit { result ≤ MAX_BITMAP_DIM }
+    {
+        self.dim
+    }
+
+    /// Returns the first vacant block of dimension `k`, if there is one.
+    pub fn first(&self, k: u32) -> Option<Region>
+        requires { k ≤ self.now.dim }
+        ensures aligned { IfSome result (λ r. IsAligned self.now.dim r) }
+        ensures first { (w : Sched) → Shows w self.now → IfSome result (λ r. (m : ℕ)
+            × (r ≡ block k m) × IsFirst w.dim k (IsVacant w) m) }
+        ensures none { (w : Sched) → Shows w self.now
+            → IfNone result (HasNone w.dim k (IsVacant w)) }
+    {
+        self.used.first(k)
+    }
+
+    /// Returns the first vacant block of dimension `k` apart from one that is to be avoided, if any
+    /// is.
+    pub fn first_beside(&self, k: u32, avoid: Region) -> Option<Region>
+        requires dim { k ≤ self.now.dim }
+        requires avoid { IsAligned self.now.dim avoid }
+        ensures aligned { IfSome result (λ r. IsAligned self.now.dim r) }
+        ensures first { (w : Sched) → Shows w self.now → IfSome result (λ r. (m : ℕ)
+            × (r ≡ block k m) × IsFirst w.dim k (IsVacantBeside w avoid) m) }
+        ensures none { (w : Sched) → Shows w self.now
+            → IfNone result (HasNone w.dim k (IsVacantBeside w avoid)) }
+    {
+        self.used.first_apart(k, avoid)
+    }
+
+    /// Returns the largest dimension of a vacant block, or `None` if no processor is vacant.
+    pub fn largest_vacant(&self) -> Option<u32>
+        ensures dim { IfSome result (λ l. l ≤ self.now.dim) }
+        ensures largest { (w : Sched) → Shows w self.now → IfSome result (λ l. (k : ℕ)
+            → k ≤ w.dim → HasNone w.dim k (IsVacant w) ↔ (l < k)) }
+        ensures none { (w : Sched) → Shows w self.now → IfNone result ((k : ℕ)
+            → k ≤ w.dim → HasNone w.dim k (IsVacant w)) }
+    {
+        self.used.largest_free()
+    }
+
+    /// Returns the largest dimension of a block of which no part is out of service, or `None` if
+    /// all processors are.
+    pub fn largest_usable(&self) -> Option<u32>
+        ensures dim { IfSome result (λ l. l ≤ self.now.dim) }
+        ensures largest { (w : Sched) → Shows w self.now → IfSome result (λ l. (k : ℕ)
+            → HasUsable w k ↔ (k ≤ l)) }
+        ensures none { (w : Sched) → Shows w self.now
+            → IfNone result ((k : ℕ) → HasUsable w k → ⊥) }
+    {
+        let Some(k) = self.out.largest_free() else {
+            return None;
+        };
+        let Some(region) = self.out.first(k) else {
+            return None;
+        };
+        Some(region.dim)
+    }
+
+    /// Returns the latest end of a block.
+    pub fn latest(&self, region: Region) -> u64
+        requires { IsAligned self.now.dim region }
+        ensures { (w : Sched) → Shows w self.now → IsLatest w region result }
+    {
+        let own = node_of(self.dim, region);
+        let Some(above) = self.used.block_with(region.base) else {
+            return end_at(&self.ends, own);
+        };
+        if above.dim < region.dim {
+            return end_at(&self.ends, own);
+        }
+        end_at(&self.ends, node_of(self.used.dim(), above))
+    }
+
+    /// Notes that a job runs in a vacant block, with this estimated end.
+    pub fn start(&mut self, region: Region, end: u64)
+        requires { IsAligned self.old.dim region }
+        ensures dim_stays { self.new.dim ≡ self.old.dim }
+        ensures shows { (w : Sched) (j : ℕ) (wait : WaitData) → Shows w self.old → Waits w j wait
+            → IsVacant w region → region.dim ≡ wait.job.dim
+            → end ≡ end_after w.now wait.job.estimate
+            → Shows (start j wait.job region w) self.new }
+    {
+        let Ok(()) = self.used.take_at(region) else {
+            return;
+        };
+        note_use(&mut self.ends, &mut self.busy, self.dim, region, end);
+    }
+
+    /// Notes that the job of a block is over.
+    pub fn finish(&mut self, region: Region)
+        ensures dim_stays { self.new.dim ≡ self.old.dim }
+        ensures shows { (w : Sched) (j : ℕ) (run : RunData) → Shows w self.old → Runs w j run
+            → run.block ≡ region → Shows (finish j w) self.new }
+    {
+        let n = self.used.dim();
+        let Ok(()) = self.used.release(region) else {
+            return;
+        };
+        note_idle(&mut self.ends, &mut self.busy, n, region);
+    }
+
+    /// Takes a block out of service. Returns false only if a part of it is in use; then nothing
+    /// changes.
+    pub fn occupy(&mut self, region: Region) -> bool
+        requires { IsAligned self.old.dim region }
+        ensures dim_stays { self.new.dim ≡ self.old.dim }
+        ensures vacant { (w : Sched) → Shows w self.old → IsTrue result ↔ IsVacant w region }
+        ensures shows { (w : Sched) → Shows w self.old → IsVacant w region
+            → Shows (occupy region w) self.new }
+        ensures unchanged { (w : Sched) → Shows w self.old → (IsVacant w region → ⊥)
+            → self.new ≡ self.old }
+    {
+        let Ok(()) = self.used.take_at(region) else {
+            return false;
+        };
+        let Ok(()) = self.out.take_at(region) else {
+            return false;
+        };
+        note_use(&mut self.ends, &mut self.busy, self.dim, region, 0);
+        true
+    }
+
+    /// Puts a block back into service. Returns false only if it is not out of service as one block;
+    /// then nothing changes.
+    pub fn vacate(&mut self, region: Region) -> bool
+        ensures dim_stays { self.new.dim ≡ self.old.dim }
+        ensures out { (w : Sched) → Shows w self.old
+            → IsTrue result ↔ (w.occupied region.base ≡ Some region) }
+        ensures shows { (w : Sched) → Shows w self.old → w.occupied region.base ≡ Some region
+            → Shows (vacate region w) self.new }
+        ensures unchanged { (w : Sched) → Shows w self.old
+            → (w.occupied region.base ≡ Some region → ⊥) → self.new ≡ self.old }
+    {
+        let n = self.out.dim();
+        let Ok(()) = self.out.release(region) else {
+            return false;
+        };
+        let Ok(()) = self.used.release(region) else {
+            return false;
+        };
+        note_idle(&mut self.ends, &mut self.busy, n, region);
+        true
+    }
+
+    /// Returns the largest dimension of a vacant block apart from one that is to be avoided, or
+    /// `None` if there is no such block.
+    pub fn largest_beside(&self, avoid: Region) -> Option<u32>
+        requires { IsAligned self.now.dim avoid }
+        ensures dim { IfSome result (λ l. l ≤ self.now.dim) }
+        ensures largest { (w : Sched) → Shows w self.now → IfSome result (λ l. (k : ℕ)
+            → k ≤ w.dim → HasNone w.dim k (IsVacantBeside w avoid) ↔ (l < k)) }
+        ensures none { (w : Sched) → Shows w self.now → IfNone result ((k : ℕ)
+            → k ≤ w.dim → HasNone w.dim k (IsVacantBeside w avoid)) }
+    {
+        largest_apart(&self.used, avoid)
+    }
+
+    /// Returns the block of dimension `k` to reserve, if there is a usable one. The way down from
+    /// the machine goes to the better half with a usable block.
+    pub fn choose(&self, k: u32) -> Region
+        requires { k ≤ self.now.dim }
+        ensures aligned { IsAligned self.now.dim result }
+        ensures dim { result.dim ≡ k }
+        ensures chosen { (w : Sched) → Shows w self.now → HasUsable w k
+            → Chooses w k (block w.dim 0) result }
+    {
+        let mut part = Region {
+            base: 0,
+            dim: self.dim,
+        };
+        for _ in k..self.dim {
+            part = self.better_half(k, part);
+        }
+        part
+    }
+
+    /// Returns how many processors jobs hold.
+    pub fn held_processors(&self) -> u32
+        ensures { (w : Sched) → Shows w self.now → IsCount (IsHeld (held w)) (2 ^ w.dim) result }
+    {
+        let out = self.out.held_processors();
+        self.used.held_processors().saturating_sub(out)
+    }
+
+    /// Returns how many processors are out of service.
+    pub fn occupied_processors(&self) -> u32
+        ensures { (w : Sched) → Shows w self.now → IsCount (IsHeld w.occupied) (2 ^ w.dim) result }
+    {
+        self.out.held_processors()
+    }
+
+    // Returns the half of a part of the machine in which the block to reserve is.
+    fn better_half(&self, k: u32, part: Region) -> Region
+        requires part { IsAligned self.now.dim part }
+        requires dim { k < part.dim }
+        ensures aligned { IsAligned self.now.dim result }
+        ensures dim { result.dim + 1 ≡ part.dim }
+        ensures goes { (w : Sched) → Shows w self.now → HasUsableIn w k part
+            → HasUsableIn w k result
+            × ((s : HeldRegion) → Chooses w k result s → Chooses w k part s) }
+    {
+        let lower = lower(part);
+        let upper = upper(self.dim, part);
+        if !has_free_in(&self.out, k, upper) {
+            return lower;
+        }
+        if !has_free_in(&self.out, k, lower) {
+            return upper;
+        }
+        let low = node_of(self.dim, lower);
+        let high = node_of(self.dim, upper);
+        if is_earlier(&self.ends, &self.busy, high, low) {
+            return upper;
+        }
+        lower
+    }
+}

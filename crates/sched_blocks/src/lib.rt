@@ -1,0 +1,15 @@
+//! The blocks of a scheduler: which are in use, until when, and which one comes next.
+//!
+//! This is the machine's part of a state of `sched_law`. It has the blocks that jobs hold or that
+//! are out of service, and the ends of the jobs that run. Each call says what it does to each state
+//! that the blocks show.
+#![tactic(auto)]
+
+mod blocks;
+mod law;
+mod nodes;
+mod parts;
+
+pub use blocks::Blocks;
+pub use cube_shape::{MAX_BITMAP_DIM, Region};
+pub use law::other_calls_change_no_block;

@@ -1,0 +1,223 @@
+-- An item that is removed from a tree.
+use Rattle.std.proofs.Common.{◌≡◌, ◌≢◌, ℕ, ◌*◌, ◌/◌, ◌%◌, ◌<◌, ◌≤◌, ◌⊎◌, inl, inr, Bool, true, false, cond, eqb, List, [], ◌∷◌, ◌++◌, refl, sym, ◌∙◌, ap, subst, arith}
+use Rattle.std.proofs.lemmas.Bool.{eq-eqb, ne_eqb}
+use Rattle.std.proofs.lemmas.List.{append-nil}
+use Rattle.wait_queue.specs.declared.nodes.Fork.{Fork as ForkData}
+use Rattle.wait_queue.specs.declared.nodes.QueueNode.{QueueNode as NodeData}
+use Rattle.wait_queue.specs.Nodes.{key_of}
+use Rattle.wait_queue.specs.Lists.{Has}
+use Rattle.wait_queue.specs.Inner.Tree.{Tree, leaf, branch, IsAt, first_of, slots_of}
+use Rattle.wait_queue.specs.Inner.Changes.{CanRemove, HasRemoved, IsPair, KeepsItems, without}
+use Rattle.wait_queue.proofs.ListLemmas.{has_left, has_right, has_cases}
+use Rattle.wait_queue.proofs.TreeLemmas.{BranchAt, apart, at_kept, first_is_least, has_first, leaf_at}
+use Rattle.wait_queue.proofs.PushLemmas.{first_is_head, keeps_more, keeps_twice}
+
+without_step : (slot x : ℕ) (xs zs : List ℕ) → (b : Bool) → zs ≡ without slot xs
+    → cond b zs (x ∷ zs) ≡ cond b (without slot xs) (x ∷ without slot xs)
+without_step slot x xs zs b same = ap (λ ys. cond b ys (x ∷ ys)) same
+
+append_step : (b : Bool) (x : ℕ) (xs ys : List ℕ) → cond b (xs ++ ys) (x ∷ (xs ++ ys)) ≡ cond b xs (x ∷ xs) ++ ys
+append_step true x xs ys = refl
+append_step false x xs ys = refl
+
+pub without_append : (slot : ℕ) (xs ys : List ℕ) → without slot (xs ++ ys) ≡ without slot xs ++ without slot ys
+without_append slot [] ys = refl
+without_append slot (x ∷ xs) ys =
+    ap (λ zs. cond (eqb slot x) zs (x ∷ zs)) (without_append slot xs ys)
+    ∙ append_step (eqb slot x) x (without slot xs) (without slot ys)
+
+pub without_none : (slot : ℕ) (xs : List ℕ) → (Has xs slot → ⊥) → without slot xs ≡ xs
+without_none slot [] out = refl
+without_none slot (x ∷ xs) out =
+    ap (λ b. cond b (without slot xs) (x ∷ without slot xs)) (ne_eqb slot x (λ same. out (inl same)))
+    ∙ ap (λ zs. x ∷ zs) (without_none slot xs (λ h. out (inr h)))
+
+pub without_own : (slot : ℕ) → without slot (slot ∷ []) ≡ []
+without_own slot = ap (λ b. cond b [] (slot ∷ [])) (eq-eqb slot slot refl)
+
+has_step : (b : Bool) (x u : ℕ) (xs ys : List ℕ) → (Has xs u → Has ys u) → Has (cond b xs (x ∷ xs)) u → (u ≡ x) ⊎ Has ys u
+has_step true x u xs ys step h = inr (step h)
+has_step false x u xs ys step (inl same) = inl same
+has_step false x u xs ys step (inr later) = inr (step later)
+
+pub without_has : (slot : ℕ) (xs : List ℕ) (u : ℕ) → Has (without slot xs) u → Has xs u
+without_has slot [] u h = h
+without_has slot (x ∷ xs) u h = has_step (eqb slot x) x u (without slot xs) xs (without_has slot xs u) h
+
+-- the first of what is left
+pub first_left : (slot : ℕ) (one two : Tree) → slots_of one ≡ without slot (slots_of two) → first_of two ≢ slot
+    → first_of two ≡ first_of one
+first_left slot one two same other =
+    let head = first_is_head one in
+    let head2 = first_is_head two in
+    let equal : first_of one ∷ head.0 ≡ first_of two ∷ without slot head2.0 =
+    sym head.1 ∙ same ∙ ap (without slot) head2.1
+    ∙ ap (λ b. cond b (without slot head2.0) (first_of two ∷ without slot head2.0)) (ne_eqb slot (first_of two) (λ is. other (sym is))) in
+    cc
+
+pub keeps_none : (nodes : List NodeData) (slots : List ℕ) → KeepsItems nodes nodes slots
+keeps_none nodes slots = record {
+  same_length = refl;
+  same_keys = λ u. refl;
+  same_estimates = λ u. refl;
+  same_forks = λ u out. refl;
+}
+
+-- a tree that has the item and is not its leaf begins with a fork
+pub is_forked : (nodes : List NodeData) (link slot : ℕ) (tree : Tree) → IsAt nodes link tree → Has (slots_of tree) slot
+    → link ≢ 2 * slot → link % 2 ≡ 1
+is_forked nodes link slot (leaf own) at (inl same) other = absurd (other (at.linked ∙ ap (λ s. 2 * s) (sym same)))
+is_forked nodes link slot (leaf own) at (inr none) other = absurd none
+is_forked nodes link slot (branch before after) at h other = let linked = at.linked in omega arith
+
+module _ (old : List NodeData) (link slot : ℕ) (tree : Tree) (found : ForkData) (can : CanRemove old link slot tree)
+    (at : BranchAt old link tree found) where
+  pub whole_slots : slots_of tree ≡ slots_of at.before ++ slots_of at.after
+  whole_slots = ap slots_of at.whole
+
+  in_one : Has (slots_of at.before) slot ⊎ Has (slots_of at.after) slot
+  in_one = has_cases (slots_of at.before) (slots_of at.after) slot (subst (λ xs. Has xs slot) whole_slots can.one_of)
+
+  key_here : key_of old (link / 2) ≡ key_of old (first_of at.after)
+  key_here = ap (key_of old) at.place
+
+  -- the item is to the left if its key is less than that of the fork's slot
+  pub on_the_left : key_of old slot < key_of old (link / 2) → Has (slots_of at.before) slot
+  on_the_left less = elim in_one [
+    | inl left ↦ left
+    | inr right ↦ (let least = first_is_least old at.after at.to_right.held slot right in let here = key_here in absurd (omega arith))
+  ]
+
+  pub on_the_right : key_of old (link / 2) ≤ key_of old slot → Has (slots_of at.after) slot
+  on_the_right most = elim in_one [
+    | inl left ↦ (let less = at.order slot (first_of at.after) left (has_first at.after) in let here = key_here in absurd (omega arith))
+    | inr right ↦ right
+  ]
+
+  pub can_remove_left : key_of old slot < key_of old (link / 2) → found.left ≢ 2 * slot → CanRemove old found.left slot at.before
+  can_remove_left less other = record {
+    found = at.to_left;
+    forked = is_forked old found.left slot at.before at.to_left (on_the_left less) other;
+    one_of = on_the_left less;
+  }
+
+  pub can_remove_right : key_of old (link / 2) ≤ key_of old slot → found.right ≢ 2 * slot → CanRemove old found.right slot at.after
+  can_remove_right most other = record {
+    found = at.to_right;
+    forked = is_forked old found.right slot at.after at.to_right (on_the_right most) other;
+    one_of = on_the_right most;
+  }
+
+  left_out_left : (zs : List ℕ) → Has (slots_of at.before) slot → zs ≡ without slot (slots_of at.before)
+      → zs ++ slots_of at.after ≡ without slot (slots_of tree)
+  left_out_left zs left same =
+      ap (λ xs. xs ++ slots_of at.after) same
+      ∙ ap (λ ys. without slot (slots_of at.before) ++ ys) (sym (without_none slot (slots_of at.after)
+      (λ right. apart old at.before at.after at.order slot slot left right refl)))
+      ∙ sym (without_append slot (slots_of at.before) (slots_of at.after))
+      ∙ ap (without slot) (sym whole_slots)
+
+  left_out_right : (zs : List ℕ) → Has (slots_of at.after) slot → zs ≡ without slot (slots_of at.after)
+      → slots_of at.before ++ zs ≡ without slot (slots_of tree)
+  left_out_right zs right same =
+      ap (λ ys. slots_of at.before ++ ys) same
+      ∙ ap (λ xs. xs ++ without slot (slots_of at.after)) (sym (without_none slot (slots_of at.before)
+      (λ left. apart old at.before at.after at.order slot slot left right refl)))
+      ∙ sym (without_append slot (slots_of at.before) (slots_of at.after))
+      ∙ ap (without slot) (sym whole_slots)
+
+  -- the item is a leaf below the fork, and the other part stays
+  pub remove_left_leaf : key_of old slot < key_of old (link / 2) → found.left ≡ 2 * slot → HasRemoved old old slot found.right tree
+  remove_left_leaf less is =
+      let even : found.left % 2 ≡ 0 = omega arith in
+      let half : found.left / 2 ≡ slot = omega arith in
+      let own : at.before ≡ leaf slot = leaf_at old found.left at.before at.to_left even ∙ ap leaf half in
+      record {
+        made = at.after;
+        found = at.to_right;
+        left_out = left_out_left [] (on_the_left less) (sym (ap (λ t. without slot (slots_of t)) own ∙ without_own slot));
+        rest = keeps_none old (slots_of tree);
+      }
+
+  pub remove_right_leaf : key_of old (link / 2) ≤ key_of old slot → found.right ≡ 2 * slot → HasRemoved old old slot found.left tree
+  remove_right_leaf most is =
+      let even : found.right % 2 ≡ 0 = omega arith in
+      let half : found.right / 2 ≡ slot = omega arith in
+      let own : at.after ≡ leaf slot = leaf_at old found.right at.after at.to_right even ∙ ap leaf half in
+      record {
+        made = at.before;
+        found = at.to_left;
+        left_out = sym (append-nil (slots_of at.before))
+            ∙ left_out_right [] (on_the_right most) (sym (ap (λ t. without slot (slots_of t)) own ∙ without_own slot));
+        rest = keeps_none old (slots_of tree);
+      }
+
+  module _ (mid : List NodeData) (left : ℕ) (less : key_of old slot < key_of old (link / 2))
+      (done : HasRemoved old mid slot left at.before) where
+    was_left : (u : ℕ) → Has (slots_of done.made) u → Has (slots_of at.before) u
+    was_left u h = without_has slot (slots_of at.before) u (subst (λ xs. Has xs u) done.left_out h)
+
+    pub remove_left_pair : IsPair mid (link / 2) left found.right done.made at.after
+    remove_left_pair = record {
+      first_tree = done.found;
+      second_tree = at_kept old mid found.right (slots_of at.before) at.after done.rest
+          (λ u h other written. apart old at.before at.after at.order u u written h refl) at.to_right;
+      order = λ u v hu hv.
+          let before_it = at.order u v (was_left u hu) hv in
+          let one = done.rest.same_keys u in let two = done.rest.same_keys v in omega arith;
+      place = at.place;
+    }
+
+    pub remove_left : (new : List NodeData) (made : ℕ) → KeepsItems mid new (link / 2 ∷ [])
+        → IsAt new made (branch done.made at.after) → HasRemoved old new slot made tree
+    remove_left new made keeps joined = record {
+      made = branch done.made at.after;
+      found = joined;
+      left_out = left_out_left (slots_of done.made) (on_the_left less) done.left_out;
+      rest = keeps_twice old mid new (slots_of tree)
+          (keeps_more old mid (slots_of at.before) (slots_of tree) done.rest
+          (λ u h. subst (λ xs. Has xs u) (sym whole_slots) (has_left (slots_of at.before) (slots_of at.after) u h)))
+          (keeps_more mid new (link / 2 ∷ []) (slots_of tree) keeps
+          (λ u h. elim h [
+            | inl same ↦ subst (λ xs. Has xs u) (sym whole_slots) (has_right (slots_of at.before) (slots_of at.after) u
+                (subst (Has (slots_of at.after)) (sym (same ∙ at.place)) (has_first at.after)))
+            | inr none ↦ absurd none
+          ]));
+    }
+
+  module _ (mid : List NodeData) (right place : ℕ) (most : key_of old (link / 2) ≤ key_of old slot)
+      (done : HasRemoved old mid slot right at.after) where
+    was_right : (u : ℕ) → Has (slots_of done.made) u → Has (slots_of at.after) u
+    was_right u h = without_has slot (slots_of at.after) u (subst (λ xs. Has xs u) done.left_out h)
+
+    -- the fork stays in its slot unless that is the item's
+    pub same_place : link / 2 ≢ slot → link / 2 ≡ first_of done.made
+    same_place other = at.place ∙ first_left slot done.made at.after done.left_out (λ is. other (at.place ∙ is))
+
+    pub remove_right_pair : place ≡ first_of done.made → IsPair mid place found.left right at.before done.made
+    remove_right_pair is = record {
+      first_tree = at_kept old mid found.left (slots_of at.after) at.before done.rest
+          (λ u h other written. apart old at.before at.after at.order u u h written refl) at.to_left;
+      second_tree = done.found;
+      order = λ u v hu hv.
+          let before_it = at.order u v hu (was_right v hv) in
+          let one = done.rest.same_keys u in let two = done.rest.same_keys v in omega arith;
+      place = is;
+    }
+
+    pub remove_right : (new : List NodeData) (made : ℕ) → place ≡ first_of done.made → KeepsItems mid new (place ∷ [])
+        → IsAt new made (branch at.before done.made) → HasRemoved old new slot made tree
+    remove_right new made is keeps joined = record {
+      made = branch at.before done.made;
+      found = joined;
+      left_out = left_out_right (slots_of done.made) (on_the_right most) done.left_out;
+      rest = keeps_twice old mid new (slots_of tree)
+          (keeps_more old mid (slots_of at.after) (slots_of tree) done.rest
+          (λ u h. subst (λ xs. Has xs u) (sym whole_slots) (has_right (slots_of at.before) (slots_of at.after) u h)))
+          (keeps_more mid new (place ∷ []) (slots_of tree) keeps
+          (λ u h. elim h [
+            | inl same ↦ subst (λ xs. Has xs u) (sym whole_slots) (has_right (slots_of at.before) (slots_of at.after) u
+                (was_right u (subst (Has (slots_of done.made)) (sym (same ∙ is)) (has_first done.made))))
+            | inr none ↦ absurd none
+          ]));
+    }

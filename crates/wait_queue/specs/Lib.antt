@@ -1,0 +1,4 @@
+pub mod Nodes
+pub mod Lists
+pub mod Queues
+pub mod Inner
