@@ -107,8 +107,8 @@ def emulated(folder, *words, given=b""):
 
 
 def must_be_as_here(folder, built, words):
-    """Sees that the program gives the bytes and the status that it gives on this machine."""
-    there, here = emulated(folder, *words), answer([built, *words], timeout=300)
+    """Sees that the program gives the bytes and the status that it gives on this machine, by the same name."""
+    there, here = emulated(folder, *words), answer(["cubejobs", *words], executable=built, timeout=300)
     must(there == here, f"status {there[0]}, output {there[1][:200]!r}, errors {there[2][:200]!r}")
 
 
