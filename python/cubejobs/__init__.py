@@ -25,7 +25,7 @@ Both have the methods of `Machine`, so one function serves both. Here it counts 
 >>> fill(Regions(4), 2), fill(FirstFit(4), 1)
 (4, 8)
 
-Blocks. Leave a `with`, or call `release`, to give a block back. A block that is forgotten stays held: `held` lists all
+Blocks. Leave a `with`, or call `release`, to give a block back. A block that is forgotten stays held: `held()` lists all
 blocks, and `release` also takes two numbers, as in `machine.release(Region(4, 2))`.
 
 Ends. Leaving the `with` of a machine closes it, and raises StillHeld if a block is held. If the body ends by an
@@ -39,7 +39,7 @@ raises OtherProcess: it would give out the same processors again. So let the par
 `block.region` to its workers: that is two plain numbers. `examples/processes.py` does so.
 
 Copies. A `FirstFit` can be copied, pickled, and made an image of bytes. The copy is another machine: what it takes, the
-first one may take too. So it is for plans, files and tests. Its blocks are held, and `held` lists them.
+first one may take too. So it is for plans, files and tests. Its blocks are held, and `held()` lists them.
 
 This module is for experiments and notebooks: its calls are far slower than those of C. What is proved is the library,
 and not this module. It loads the shared objects from the folder that CUBEJOBS_LIB names. If it names none, the module
