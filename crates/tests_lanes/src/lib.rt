@@ -1,4 +1,4 @@
-//! Tests of the lanes of jobs (`job_lanes`): worked out by hand, and with many threads.
+//! Tests of the lanes of jobs (`job_lanes`) that are worked out by hand, and of shared lanes.
 #![tactic(auto)]
 
 #[cfg(test)]

@@ -1,13 +1,8 @@
 ghost use Rattle.std.specs.Prelude.{◌≡◌, Ok};
 
 mod calls;
-mod crowd;
-mod finding;
-mod naming;
 mod script;
 mod sharing;
-mod sleepers;
-mod sleeping;
 
 use std::fmt::Debug;
 use std::process::Abort;
