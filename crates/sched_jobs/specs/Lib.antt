@@ -1,0 +1,6 @@
+pub mod Slots
+pub mod Select
+pub mod Shows
+pub mod Lines
+pub mod Inner
+pub use Rattle.sched_law.specs.State.{Sched, cancel, end_after, finish, initial, pass, start, submit}

@@ -1,0 +1,270 @@
+//! The jobs of a scheduler as a value.
+
+ghost use Rattle.std.specs.Prelude.{◌≡◌, ℕ, ◌+◌, ◌^◌, ◌<◌, ◌≤◌, min, Some, None, IfOk, IfSome, IfNone};
+ghost use Rattle.sched_law.specs.declared.job.TheConstants.{NEVER as LAST};
+ghost use Rattle.sched_law.specs.declared.job.Place.TheVariants.{Waiting, Running};
+ghost use Rattle.sched_law.specs.declared.job.SchedWait.{SchedWait as WaitData};
+ghost use Rattle.sched_law.specs.declared.job.SchedRun.{SchedRun as RunData};
+ghost use Rattle.sched_law.specs.State.{Sched, cancel, end_after, finish, initial, pass, start, submit};
+ghost use Rattle.sched_jobs.specs.Shows.{HasJob, HasNoneWaiting, HasOthers, IsFirstWaiting, ShowsJobs, arrival_of, capacity_of, place_of, ticket_of};
+
+use crate::select::first_wanted;
+use crate::slots::{Slot, arrival_at, free_after, is_present, place_at, put};
+use cube_shape::{MAX_BITMAP_DIM, Region};
+use sched_law::{Place, SchedJob, SchedRun, SchedWait};
+use std::alloc::{AllocError, Global};
+use wait_queue::MAX_SLOTS;
+
+/// The jobs of a scheduler for one thread.
+///
+/// Only `new` allocates memory.
+#[derive(Drop)]
+pub struct Jobs {
+    next: u64,
+    free: u32,
+    slots: Vec<Slot>,
+}
+
+/// How many jobs can have tickets.
+pub const MAX_TICKETS: u64 = 1 << 40;
+
+impl Jobs {
+    /// Creates a table for this many jobs, without a job.
+    pub fn new(alloc: Global, capacity: usize) -> Result<Self, AllocError>
+        requires { capacity ≤ MAX_SLOTS }
+        ensures capacity { IfOk result (λ made. capacity_of made ≡ capacity) }
+        ensures shows { IfOk result (λ made. (n patience : ℕ)
+            → ShowsJobs (initial n patience) made) }
+    {
+        let slots = vec![in alloc; Slot::UNUSED; capacity]?;
+        Ok(Jobs {
+            next: 0,
+            free: 0,
+            slots,
+        })
+    }
+
+    /// Returns how many jobs the table may have.
+    pub fn capacity(&self) -> usize
+        ensures { result ≡ capacity_of self.now }
+    {
+        self.slots.len()
+    }
+
+    /// Returns how many jobs were submitted, which is the number of the next one.
+    pub fn next(&self) -> u64
+        ensures { result ≡ self.now.next }
+    {
+        self.next
+    }
+
+    /// Returns where the job of a slot is.
+    pub fn place(&self, slot: u32) -> Place
+        requires { slot < capacity_of self.now }
+        ensures { result ≡ place_of self.now slot }
+    {
+        place_at(&self.slots, slot)
+    }
+
+    /// Returns the number of a slot's job.
+    pub fn arrival(&self, slot: u32) -> u64
+        requires { slot < capacity_of self.now }
+        ensures { result ≡ arrival_of self.now slot }
+    {
+        arrival_at(&self.slots, slot)
+    }
+
+    /// Returns a name for a slot's job, which no other job ever has.
+    pub fn ticket(&self, slot: u32) -> u64
+        requires limit { capacity_of self.now ≤ MAX_SLOTS }
+        requires inside { slot < capacity_of self.now }
+        requires arrival { arrival_of self.now slot < MAX_TICKETS }
+        ensures { result ≡ ticket_of self.now slot }
+    {
+        arrival_at(&self.slots, slot) * MAX_SLOTS as u64 + slot as u64
+    }
+
+    /// Returns the slot of the job with a ticket, if it is not over.
+    pub fn find(&self, ticket: u64) -> Option<u32>
+        requires { capacity_of self.now ≤ MAX_SLOTS }
+        ensures found { IfSome result (λ slot. slot < capacity_of self.now
+            × HasJob self.now slot × (ticket ≡ ticket_of self.now slot)) }
+        ensures none { IfNone result ((slot : ℕ) → slot < capacity_of self.now
+            → HasJob self.now slot → ticket ≡ ticket_of self.now slot → ⊥) }
+    {
+        let slot = (ticket % MAX_SLOTS as u64) as u32;
+        if slot as usize >= self.slots.len() {
+            return None;
+        }
+        if arrival_at(&self.slots, slot) != ticket / MAX_SLOTS as u64 {
+            return None;
+        }
+        if !is_present(&self.slots, slot) {
+            return None;
+        }
+        Some(slot)
+    }
+
+    /// Returns the first waiting job in order of those that need at most dimension `most`. It looks
+    /// at each slot.
+    pub fn first(&self, most: u32) -> Option<u32>
+        requires { capacity_of self.now ≤ MAX_SLOTS }
+        ensures first { (w : Sched) → ShowsJobs w self.now
+            → IfSome result (IsFirstWaiting (Some most) None 0 w self.now) }
+        ensures none { (w : Sched) → ShowsJobs w self.now
+            → IfNone result (HasNoneWaiting (Some most) None 0 w) }
+    {
+        first_wanted(&self.slots, Some(most), None, 0)
+    }
+
+    /// Returns the first waiting job in order that may pass the head. It needs at most dimension
+    /// `any`, or at most `most` and has a known estimate of at most `limit`. It looks at each slot.
+    pub fn first_passing(&self, any: Option<u32>, most: Option<u32>, limit: u64) -> Option<u32>
+        requires { capacity_of self.now ≤ MAX_SLOTS }
+        ensures first { (w : Sched) → ShowsJobs w self.now
+            → IfSome result (IsFirstWaiting any most limit w self.now) }
+        ensures none { (w : Sched) → ShowsJobs w self.now
+            → IfNone result (HasNoneWaiting any most limit w) }
+    {
+        first_wanted(&self.slots, any, most, limit)
+    }
+
+    /// Adds a waiting job, and returns its slot. Returns `None` only if each slot has a job; then
+    /// nothing changes.
+    pub fn submit(&mut self, job: SchedJob) -> Option<u32>
+        requires next { self.old.next < LAST }
+        requires shows { (w : Sched) × ShowsJobs w self.old }
+        ensures capacity { capacity_of self.new ≡ capacity_of self.old }
+        ensures none { IfNone result (self.new ≡ self.old) }
+        ensures full { (w : Sched) → ShowsJobs w self.old → IfNone result ((slot : ℕ)
+            → slot < capacity_of self.old → HasJob self.old slot) }
+        ensures inside { IfSome result (λ slot. slot < capacity_of self.new) }
+        ensures next { IfSome result (λ slot. self.new.next ≡ self.old.next + 1) }
+        ensures place { IfSome result (λ slot. place_of self.new slot
+            ≡ Waiting (record { job = job; passed = 0 })) }
+        ensures arrival { IfSome result (λ slot. arrival_of self.new slot ≡ self.old.next) }
+        ensures others { IfSome result (λ slot. HasOthers self.old self.new slot) }
+        ensures shows { (w : Sched) → ShowsJobs w self.old
+            → IfSome result (λ slot. ShowsJobs (submit job w) self.new) }
+    {
+        let slot = self.free;
+        if slot as usize >= self.slots.len() {
+            return None;
+        }
+        self.free = free_after(&self.slots, slot);
+        let wait = SchedWait { job, passed: 0 };
+        put(&mut self.slots, slot, self.next, Place::Waiting(wait), 0);
+        self.next += 1;
+        Some(slot)
+    }
+
+    /// Removes a waiting job.
+    pub fn cancel(&mut self, slot: u32)
+        requires inside { slot < capacity_of self.old }
+        requires job { (wait : WaitData) × (place_of self.old slot ≡ Waiting wait) }
+        requires shows { (w : Sched) × ShowsJobs w self.old }
+        ensures capacity { capacity_of self.new ≡ capacity_of self.old }
+        ensures next { self.new.next ≡ self.old.next }
+        ensures others { HasOthers self.old self.new slot }
+        ensures shows { (w : Sched) → ShowsJobs w self.old
+            → ShowsJobs (cancel (arrival_of self.old slot) w) self.new }
+    {
+        self.clear(slot);
+    }
+
+    /// Removes a running job.
+    pub fn finish(&mut self, slot: u32)
+        requires inside { slot < capacity_of self.old }
+        requires job { (run : RunData) × (place_of self.old slot ≡ Running run) }
+        requires shows { (w : Sched) × ShowsJobs w self.old }
+        ensures capacity { capacity_of self.new ≡ capacity_of self.old }
+        ensures next { self.new.next ≡ self.old.next }
+        ensures others { HasOthers self.old self.new slot }
+        ensures shows { (w : Sched) → ShowsJobs w self.old
+            → ShowsJobs (finish (arrival_of self.old slot) w) self.new }
+    {
+        self.clear(slot);
+    }
+
+    // Makes a slot free.
+    fn clear(&mut self, slot: u32)
+        requires inside { slot < capacity_of self.old }
+        requires job { HasJob self.old slot }
+        requires shows { (w : Sched) × ShowsJobs w self.old }
+        ensures capacity { capacity_of self.new ≡ capacity_of self.old }
+        ensures next { self.new.next ≡ self.old.next }
+        ensures others { HasOthers self.old self.new slot }
+        ensures shows { (w : Sched) → ShowsJobs w self.old
+            → ShowsJobs (finish (arrival_of self.old slot) w) self.new }
+    {
+        let link = self.free + 1;
+        put(&mut self.slots, slot, 0, Place::Absent, link);
+        self.free = slot;
+    }
+
+    /// Lets a waiting job run in a block, with this estimated end.
+    pub fn start(&mut self, slot: u32, block: Region, end: u64)
+        requires inside { slot < capacity_of self.old }
+        ensures capacity { capacity_of self.new ≡ capacity_of self.old }
+        ensures next { self.new.next ≡ self.old.next }
+        ensures arrival { arrival_of self.new slot ≡ arrival_of self.old slot }
+        ensures place { (wait : WaitData) → place_of self.old slot ≡ Waiting wait
+            → place_of self.new slot ≡ Running (record {
+              job = wait.job;
+              block = block;
+              end = end;
+            }) }
+        ensures others { HasOthers self.old self.new slot }
+        ensures shows { (w : Sched) (wait : WaitData) → ShowsJobs w self.old
+            → place_of self.old slot ≡ Waiting wait → end ≡ end_after w.now wait.job.estimate
+            → ShowsJobs (start (arrival_of self.old slot) wait.job block w) self.new }
+    {
+        let Place::Waiting(wait) = place_at(&self.slots, slot) else {
+            return;
+        };
+        let arrival = arrival_at(&self.slots, slot);
+        let run = SchedRun {
+            job: wait.job,
+            block,
+            end,
+        };
+        put(&mut self.slots, slot, arrival, Place::Running(run), 0);
+    }
+
+    /// Counts that a job with a block of dimension `k` passes a waiting one.
+    pub fn pass(&mut self, slot: u32, k: u32)
+        requires inside { slot < capacity_of self.old }
+        requires dim { k ≤ MAX_BITMAP_DIM }
+        ensures capacity { capacity_of self.new ≡ capacity_of self.old }
+        ensures next { self.new.next ≡ self.old.next }
+        ensures arrival { arrival_of self.new slot ≡ arrival_of self.old slot }
+        ensures place { (wait : WaitData) → place_of self.old slot ≡ Waiting wait
+            → place_of self.new slot ≡ Waiting (record {
+              job = wait.job;
+              passed = min (wait.passed + 2 ^ k) LAST;
+            }) }
+        ensures others { HasOthers self.old self.new slot }
+        ensures shows { (w : Sched) (wait : WaitData) → ShowsJobs w self.old
+            → place_of self.old slot ≡ Waiting wait
+            → ShowsJobs (pass (arrival_of self.old slot) wait k w) self.new }
+    {
+        let Place::Waiting(wait) = place_at(&self.slots, slot) else {
+            return;
+        };
+        let arrival = arrival_at(&self.slots, slot);
+        let passed = passed_more(wait.passed, k);
+        let after = SchedWait {
+            job: wait.job,
+            passed,
+        };
+        put(&mut self.slots, slot, arrival, Place::Waiting(after), 0);
+    }
+}
+
+// Returns how much has passed a job after a block of dimension `k`.
+fn passed_more(passed: u64, k: u32) -> u64
+    requires { k ≤ MAX_BITMAP_DIM }
+    ensures { result ≡ min (passed + 2 ^ k) LAST }
+{
+    passed.saturating_add(1 << k)
+}

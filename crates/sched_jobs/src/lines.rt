@@ -1,0 +1,67 @@
+//! Waiting slots in queues, one for each class and dimension.
+
+ghost use Rattle.std.specs.Prelude.{◌≡◌, ◌≢◌, ℕ, ◌<◌, ◌≤◌, Option, Some, None, IfSome, IfNone, length};
+ghost use Rattle.wait_queue.specs.Nodes.{estimate_of, key_of};
+ghost use Rattle.sched_law.specs.State.{set};
+ghost use Rattle.sched_jobs.specs.Lines.{AreLines, CanJoin, IsFirstIn, IsFirstWithin};
+
+use wait_queue::{Queue, QueueNode, oldest, oldest_within, push, remove};
+
+/// Appends a slot to a queue, with a key above all keys of this queue.
+pub fn join_line(
+    nodes: &mut [QueueNode],
+    queues: &mut [Queue],
+    at: usize,
+    slot: u32,
+    key: u64,
+    estimate: u64,
+)
+    requires at { at < length queues.old }
+    requires slot { slot < length nodes.old }
+    requires lines { (line : ℕ → Option ℕ) × CanJoin nodes.old queues.old line at slot key }
+    ensures lines { (line : ℕ → Option ℕ) → CanJoin nodes.old queues.old line at slot key
+        → AreLines nodes.new queues.new (set line slot (Some at)) }
+    ensures key { key_of nodes.new slot ≡ key }
+    ensures estimate { estimate_of nodes.new slot ≡ estimate }
+    ensures keys { (u : ℕ) → u ≢ slot → key_of nodes.new u ≡ key_of nodes.old u }
+    ensures estimates { (u : ℕ) → u ≢ slot → estimate_of nodes.new u ≡ estimate_of nodes.old u }
+{
+    push(nodes, &mut queues[at], slot, key, estimate);
+}
+
+/// Removes a slot from its queue.
+pub fn leave_line(nodes: &mut [QueueNode], queues: &mut [Queue], at: usize, slot: u32)
+    requires at { at < length queues.old }
+    requires lines { (line : ℕ → Option ℕ) × (AreLines nodes.old queues.old line
+        × (line slot ≡ Some at)) }
+    ensures lines { (line : ℕ → Option ℕ) → AreLines nodes.old queues.old line
+        → line slot ≡ Some at → AreLines nodes.new queues.new (set line slot None) }
+    ensures keys { (u : ℕ) → key_of nodes.new u ≡ key_of nodes.old u }
+    ensures estimates { (u : ℕ) → estimate_of nodes.new u ≡ estimate_of nodes.old u }
+{
+    remove(nodes, &mut queues[at], slot);
+}
+
+/// Returns the slot with the least key in a line.
+pub fn first_in_line(nodes: &[QueueNode], queues: &[Queue], at: usize) -> Option<u32>
+    requires at { at < length queues.now }
+    requires lines { (line : ℕ → Option ℕ) × AreLines nodes.now queues.now line }
+    ensures first { (line : ℕ → Option ℕ) → AreLines nodes.now queues.now line
+        → IfSome result (IsFirstIn nodes.now line at) }
+    ensures none { (line : ℕ → Option ℕ) → AreLines nodes.now queues.now line
+        → IfNone result ((u : ℕ) → line u ≡ Some at → ⊥) }
+{
+    oldest(nodes, &queues[at])
+}
+
+/// Returns the slot with the least key among those of a line with an estimate of at most `limit`.
+pub fn first_within(nodes: &[QueueNode], queues: &[Queue], at: usize, limit: u64) -> Option<u32>
+    requires at { at < length queues.now }
+    requires lines { (line : ℕ → Option ℕ) × AreLines nodes.now queues.now line }
+    ensures first { (line : ℕ → Option ℕ) → AreLines nodes.now queues.now line
+        → IfSome result (IsFirstWithin nodes.now line at limit) }
+    ensures none { (line : ℕ → Option ℕ) → AreLines nodes.now queues.now line
+        → IfNone result ((u : ℕ) → line u ≡ Some at → limit < estimate_of nodes.now u) }
+{
+    oldest_within(nodes, &queues[at], limit)
+}
