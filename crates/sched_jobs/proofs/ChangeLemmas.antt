@@ -1,77 +1,98 @@
 -- What a change of one slot does to the table.
-use Rattle.std.proofs.Common.{◌≡◌, ◌≢◌, ℕ, ◌+◌, ◌<◌, ◌≤◌, inl, inr, List, [], ◌∷◌, ◌++◌, length, replicate, take, drop, refl, sym, ◌∙◌, ap, subst, arith}
+use Rattle.std.proofs.Common.{◌≡◌, ◌≢◌, ℕ, ◌+◌, ◌<◌, ◌≤◌, ◌⊎◌, inl, inr, List, [], ◌∷◌, length, replicate, refl, sym, ◌∙◌, ap, subst, arith}
 use Rattle.std.proofs.lemmas.Bool.{cases_eq, cases_lt}
 use Rattle.std.proofs.lemmas.List.{get_or_past}
 use Rattle.wait_queue.specs.declared.nodes.TheConstants.{MAX_SLOTS}
+use Rattle.wait_queue.specs.declared.nodes.QueueNode.{QueueNode as NodeData}
+use Rattle.wait_queue.specs.Nodes.{key_of}
 use Rattle.sched_law.specs.declared.job.Place.{Place}
 use Rattle.sched_law.specs.declared.job.Place.TheVariants.{Absent}
 use Rattle.sched_law.specs.State.{set}
 use Rattle.sched_law.proofs.SetLemmas.{set_else, set_here}
+use Rattle.sched_jobs.specs.declared.slots.TheConstants.{MAX_GENERATION}
 use Rattle.sched_jobs.specs.declared.slots.Slot.{Slot}
-use Rattle.sched_jobs.specs.Slots.{IsPresent, arrival_in, link_in, next_after, place_in, slot_in}
+use Rattle.sched_jobs.specs.Slots.{IsPresent, generation_in, next_after, place_in, slot_in}
 use Rattle.sched_jobs.specs.Shows.{AreFree, IsIn, ShowsSlots}
-use Rattle.sched_jobs.specs.Inner.{HasPut}
-use Rattle.sched_jobs.proofs.SlotLemmas.{absent_or_present, arrival_else, arrival_here, link_here, not_both, place_else, place_here, written}
-use Rattle.sched_jobs.proofs.FreeLemmas.{all_unused, free_absent, free_kept, run, run_free, run_has}
+use Rattle.sched_jobs.specs.Inner.{HasKey, HasPut}
+use Rattle.sched_jobs.proofs.SlotLemmas.{absent_or_present, generation_else, generation_here, not_both, place_else, place_here}
+use Rattle.sched_jobs.proofs.FreeLemmas.{all_unused, first_inside, free_absent, free_kept, run, run_free, run_has}
 
-module _ (f : ℕ → Place) (next first : ℕ) (slots new : List Slot) (at a c link : ℕ) (p : Place)
-    (k : ShowsSlots f next first slots) (put : HasPut slots new at c p link) (mine : IsPresent p → c ≡ a)
-    (still : (u : ℕ) → IsPresent (place_in slots u) → u ≡ at → arrival_in slots u ≡ a)
-    (apart : (u : ℕ) → u ≢ at → IsPresent (place_in slots u) → arrival_in slots u ≢ a) where
+module _ (f : ℕ → Place) (next first : ℕ) (slots new : List Slot) (nodes after : List NodeData) (at a c generation : ℕ) (p : Place)
+    (k : ShowsSlots f next first slots nodes) (put : HasPut slots new at generation p) (key : HasKey nodes after at c) (mine : IsPresent p → c ≡ a)
+    (few : generation ≤ MAX_GENERATION) (some : IsPresent p → 0 < generation)
+    (still : (u : ℕ) → IsPresent (place_in slots u) → u ≡ at → key_of nodes u ≡ a)
+    (apart : (u : ℕ) → u ≢ at → IsPresent (place_in slots u) → key_of nodes u ≢ a) where
   here : (u : ℕ) → u ≡ at → IsPresent (place_in new u) → IsPresent p
-  here u same present = subst IsPresent (place_here slots new at c link p put u same) present
+  here u same present = subst IsPresent (place_here slots new at generation p put u same) present
 
   else : (u : ℕ) → u ≢ at → IsPresent (place_in new u) → IsPresent (place_in slots u)
-  else u other present = subst IsPresent (place_else slots new at c link p put u other) present
+  else u other present = subst IsPresent (place_else slots new at generation p put u other) present
 
-  number : (u : ℕ) → u ≡ at → IsPresent (place_in new u) → arrival_in new u ≡ a
-  number u same present = arrival_here slots new at c link p put u same ∙ mine (here u same present)
+  key_here : (u : ℕ) → u ≡ at → key_of after u ≡ c
+  key_here u same = ap (key_of after) same ∙ key.here
 
-  pub now_holds : (u : ℕ) → IsPresent (place_in new u) → set f a p (arrival_in new u) ≡ place_in new u
-  now_holds u present = elim (cases_eq u at) [
-    | inl same ↦ ap (set f a p) (number u same present) ∙ set_here f a p ∙ sym (place_here slots new at c link p put u same)
-    | inr other ↦
-        let old = else u other present in
-        ap (set f a p) (arrival_else slots new at c link p put u other) ∙ set_else f a p (arrival_in slots u) (apart u other old)
-        ∙ k.holds u old ∙ sym (place_else slots new at c link p put u other)
+  number : (u : ℕ) → u ≡ at → IsPresent (place_in new u) → key_of after u ≡ a
+  number u same present = key_here u same ∙ mine (here u same present)
+
+  pub now_generations : (u : ℕ) → generation_in new u ≤ MAX_GENERATION
+  now_generations u = elim (cases_eq u at) [
+    | inl same ↦ subst (λ (g : ℕ). g ≤ MAX_GENERATION) (sym (generation_here slots new at generation p put u same)) few
+    | inr other ↦ subst (λ (g : ℕ). g ≤ MAX_GENERATION) (sym (generation_else slots new at generation p put u other)) (k.generations u)
   ]
 
-  pub now_before : (next2 : ℕ) → next ≤ next2 → (IsPresent p → a < next2) → (u : ℕ) → IsPresent (place_in new u) → arrival_in new u < next2
+  pub now_used : (u : ℕ) → IsPresent (place_in new u) → 0 < generation_in new u
+  now_used u present = elim (cases_eq u at) [
+    | inl same ↦ subst (λ (g : ℕ). 0 < g) (sym (generation_here slots new at generation p put u same)) (some (here u same present))
+    | inr other ↦ subst (λ (g : ℕ). 0 < g) (sym (generation_else slots new at generation p put u other)) (k.used u (else u other present))
+  ]
+
+  pub now_holds : (u : ℕ) → IsPresent (place_in new u) → set f a p (key_of after u) ≡ place_in new u
+  now_holds u present = elim (cases_eq u at) [
+    | inl same ↦ ap (set f a p) (number u same present) ∙ set_here f a p ∙ sym (place_here slots new at generation p put u same)
+    | inr other ↦
+        let old = else u other present in
+        ap (set f a p) (key.others u other) ∙ set_else f a p (key_of nodes u) (apart u other old)
+        ∙ k.holds u old ∙ sym (place_else slots new at generation p put u other)
+  ]
+
+  pub now_before : (next2 : ℕ) → next ≤ next2 → (IsPresent p → a < next2) → (u : ℕ) → IsPresent (place_in new u) → key_of after u < next2
   now_before next2 more own u present = elim (cases_eq u at) [
     | inl same ↦ subst (λ (x : ℕ). x < next2) (sym (number u same present)) (own (here u same present))
     | inr other ↦
-        let old : arrival_in slots u < next = k.before u (else u other present) in
-        let less : arrival_in slots u < next2 = omega (arith, old, more) in
-        subst (λ (x : ℕ). x < next2) (sym (arrival_else slots new at c link p put u other)) less
+        let old : key_of nodes u < next = k.before u (else u other present) in
+        let less : key_of nodes u < next2 = omega (arith, old, more) in
+        subst (λ (x : ℕ). x < next2) (sym (key.others u other)) less
   ]
 
-  pub now_slot : (b : ℕ) → IsPresent (set f a p b) → (u : ℕ) × IsPresent (place_in new u) × (arrival_in new u ≡ b)
+  pub now_slot : (b : ℕ) → IsPresent (set f a p b) → (u : ℕ) × IsPresent (place_in new u) × (key_of after u ≡ b)
   now_slot b present = elim (cases_eq b a) [
     | inl same ↦
         let own : IsPresent p = subst IsPresent (ap (set f a p) same ∙ set_here f a p) present in
-        (at, subst IsPresent (sym (place_here slots new at c link p put at refl)) own, arrival_here slots new at c link p put at refl ∙ mine own ∙ sym same)
+        (at, subst IsPresent (sym (place_here slots new at generation p put at refl)) own, key_here at refl ∙ mine own ∙ sym same)
     | inr other ↦
         let found = k.slot b (subst IsPresent (set_else f a p b other) present) in
         let away : found.0 ≢ at = λ same. other (sym found.2 ∙ still found.0 found.1 same) in
-        (found.0, subst IsPresent (sym (place_else slots new at c link p put found.0 away)) found.1, arrival_else slots new at c link p put found.0 away ∙ found.2)
+        (found.0, subst IsPresent (sym (place_else slots new at generation p put found.0 away)) found.1, key.others found.0 away ∙ found.2)
   ]
 
-  pub now_once : (u v : ℕ) → IsPresent (place_in new u) → IsPresent (place_in new v) → arrival_in new u ≡ arrival_in new v → u ≡ v
+  pub now_once : (u v : ℕ) → IsPresent (place_in new u) → IsPresent (place_in new v) → key_of after u ≡ key_of after v → u ≡ v
   now_once u v pu pv one = elim (cases_eq u at) [
     | inl u_at ↦ elim (cases_eq v at) [
       | inl v_at ↦ u_at ∙ sym v_at
-      | inr v_not ↦ absurd (apart v v_not (else v v_not pv) (sym (arrival_else slots new at c link p put v v_not) ∙ sym one ∙ number u u_at pu))
+      | inr v_not ↦ absurd (apart v v_not (else v v_not pv) (sym (key.others v v_not) ∙ sym one ∙ number u u_at pu))
     ]
     | inr u_not ↦ elim (cases_eq v at) [
-      | inl v_at ↦ absurd (apart u u_not (else u u_not pu) (sym (arrival_else slots new at c link p put u u_not) ∙ one ∙ number v v_at pv))
-      | inr v_not ↦ k.once u v (else u u_not pu) (else v v_not pv) (sym (arrival_else slots new at c link p put u u_not) ∙ one ∙ arrival_else slots new at c link p put v v_not)
+      | inl v_at ↦ absurd (apart u u_not (else u u_not pu) (sym (key.others u u_not) ∙ one ∙ number v v_at pv))
+      | inr v_not ↦ k.once u v (else u u_not pu) (else v v_not pv) (sym (key.others u u_not) ∙ one ∙ key.others v v_not)
     ]
   ]
 
-  pub changed : (next2 first2 : ℕ) (list : List ℕ) → next ≤ next2 → (IsPresent p → a < next2) → AreFree new first2 list
-      → ((u : ℕ) → u < length new → place_in new u ≡ Absent → IsIn u list) → ShowsSlots (set f a p) next2 first2 new
+  pub changed : (next2 first2 : ℕ) (list : List ℕ) → next ≤ next2 → (IsPresent p → a < next2) → AreFree new after first2 list
+      → ((u : ℕ) → u < length new → place_in new u ≡ Absent → IsIn u list ⊎ (generation_in new u ≡ MAX_GENERATION)) → ShowsSlots (set f a p) next2 first2 new after
   changed next2 first2 list more own free all = record {
     limit = subst (λ n. n ≤ MAX_SLOTS) (sym put.len) k.limit;
+    generations = now_generations;
+    used = now_used;
     holds = now_holds;
     before = now_before next2 more own;
     slot = now_slot;
@@ -81,151 +102,163 @@ module _ (f : ℕ → Place) (next first : ℕ) (slots new : List Slot) (at a c 
     all = all;
   }
 
+-- another slot without a job is free or retired as before
+pub all_else : (f : ℕ → Place) (next first : ℕ) (slots new : List Slot) (nodes : List NodeData) (at generation : ℕ) (p : Place)
+    → (k : ShowsSlots f next first slots nodes) → HasPut slots new at generation p → (u : ℕ) → u ≢ at
+    → u < length new → place_in new u ≡ Absent → IsIn u k.list ⊎ (generation_in new u ≡ MAX_GENERATION)
+all_else f next first slots new nodes at generation p k put u other within absent =
+    elim (k.all u (subst (λ (n : ℕ). u < n) put.len within) (sym (place_else slots new at generation p put u other) ∙ absent)) [
+      | inl has ↦ inl has
+      | inr retired ↦ inr (generation_else slots new at generation p put u other ∙ retired)
+    ]
+
 -- the first slot of a table that is not full
-pub has_free : (slots : List Slot) (first : ℕ) (list : List ℕ) → AreFree slots first list → first < length slots
-    → (rest : List ℕ) × (list ≡ first ∷ rest) × AreFree slots first (first ∷ rest)
-has_free slots first [] is inside = absurd (omega (arith, is, inside))
-has_free slots first (u ∷ rest) is inside =
-    (rest, ap (λ (x : ℕ). x ∷ rest) (sym is.0), subst (λ (x : ℕ). AreFree slots first (x ∷ rest)) (sym is.0) is)
+pub has_free : (slots : List Slot) (nodes : List NodeData) (first : ℕ) (list : List ℕ) → AreFree slots nodes first list → first < length slots
+    → (rest : List ℕ) × (list ≡ first ∷ rest) × AreFree slots nodes first (first ∷ rest)
+has_free slots nodes first [] is inside = absurd (omega (arith, is, inside))
+has_free slots nodes first (u ∷ rest) is inside =
+    (rest, ap (λ (x : ℕ). x ∷ rest) (sym is.0), subst (λ (x : ℕ). AreFree slots nodes first (x ∷ rest)) (sym is.0) is)
+
+module _ (f : ℕ → Place) (next first : ℕ) (slots : List Slot) (nodes : List NodeData) (k : ShowsSlots f next first slots nodes) (inside : first < length slots) where
+  pub first_absent : place_in slots first ≡ Absent
+  first_absent = (has_free slots nodes first k.list k.free inside).2.2
+
+  pub first_is_free : generation_in slots first < MAX_GENERATION
+  first_is_free = (has_free slots nodes first k.list k.free inside).2.3
+
+  pub after_inside : next_after first (key_of nodes first) ≤ MAX_SLOTS
+  after_inside =
+      let found = has_free slots nodes first k.list k.free inside in
+      let within : next_after first (key_of nodes first) ≤ length slots = first_inside slots nodes (next_after first (key_of nodes first)) found.0 found.2.5 in
+      omega (arith, within, k.limit)
 
 -- the first free slot gets a new job
-pub submit_shows : (f : ℕ → Place) (next first : ℕ) (slots new : List Slot) (p : Place) → ShowsSlots f next first slots → first < length slots → IsPresent p
-    → HasPut slots new first next p 0 → ShowsSlots (set f next p) (next + 1) (next_after first (link_in slots first)) new
-submit_shows f next first slots new p k inside present put =
-    let found = has_free slots first k.list k.free inside in
+pub submit_shows : (f : ℕ → Place) (next first : ℕ) (slots new : List Slot) (nodes after : List NodeData) (generation : ℕ) (p : Place) → ShowsSlots f next first slots nodes
+    → first < length slots → IsPresent p → generation ≡ generation_in slots first + 1 → HasPut slots new first generation p → HasKey nodes after first next
+    → ShowsSlots (set f next p) (next + 1) (next_after first (key_of nodes first)) new after
+submit_shows f next first slots new nodes after generation p k inside present one_more put key =
+    let found = has_free slots nodes first k.list k.free inside in
     let absent : place_in slots first ≡ Absent = found.2.2 in
-    changed f next first slots new first next next 0 p k put (λ _. refl)
+    let fewer : generation_in slots first < MAX_GENERATION = found.2.3 in
+    changed f next first slots new nodes after first next next generation p k put key (λ _. refl) (omega (arith, fewer, one_more)) (λ _. omega (arith, one_more))
     (λ u is same. absurd (not_both (place_in slots u) (ap (place_in slots) same ∙ absent) is))
-    (λ u other is one. (let less : arrival_in slots u < next = k.before u is in absurd (omega (arith, less, one))))
-    (next + 1) (next_after first (link_in slots first)) found.0 (omega arith) (λ _. omega arith)
-    (free_kept slots new first next 0 p (next_after first (link_in slots first)) found.0 put found.2.3 found.2.4)
+    (λ u other is one. (let less : key_of nodes u < next = k.before u is in absurd (omega (arith, less, one))))
+    (next + 1) (next_after first (key_of nodes first)) found.0 (omega arith) (λ _. omega arith)
+    (free_kept slots new nodes after first next generation p (next_after first (key_of nodes first)) found.0 put key found.2.4 found.2.5)
     (λ u within none. elim (cases_eq u first) [
-      | inl same ↦ absurd (not_both (place_in new u) none (subst IsPresent (sym (place_here slots new first next 0 p put u same)) present))
+      | inl same ↦ absurd (not_both (place_in new u) none (subst IsPresent (sym (place_here slots new first generation p put u same)) present))
       | inr other ↦
-          elim (subst (IsIn u) found.1 (k.all u (subst (λ (n : ℕ). u < n) put.len within) (sym (place_else slots new first next 0 p put u other) ∙ none))) [
-            | inl same ↦ absurd (other same)
-            | inr later ↦ later
+          elim (all_else f next first slots new nodes first generation p k put u other within none) [
+            | inl has ↦ elim (subst (IsIn u) found.1 has) [ inl same ↦ absurd (other same) | inr later ↦ inl later ]
+            | inr retired ↦ inr retired
           ]
     ])
 
 -- a slot of another job has another number
-pub other_number : (f : ℕ → Place) (next first : ℕ) (slots : List Slot) (at : ℕ) → ShowsSlots f next first slots → IsPresent (place_in slots at)
-    → (u : ℕ) → u ≢ at → IsPresent (place_in slots u) → arrival_in slots u ≢ arrival_in slots at
-other_number f next first slots at k present u other is one = other (k.once u at is present one)
+pub other_number : (f : ℕ → Place) (next first : ℕ) (slots : List Slot) (nodes : List NodeData) (at : ℕ) → ShowsSlots f next first slots nodes → IsPresent (place_in slots at)
+    → (u : ℕ) → u ≢ at → IsPresent (place_in slots u) → key_of nodes u ≢ key_of nodes at
+other_number f next first slots nodes at k present u other is one = other (k.once u at is present one)
 
 -- a job has another place
-pub replace_shows : (f : ℕ → Place) (next first : ℕ) (slots new : List Slot) (at : ℕ) (p : Place) → ShowsSlots f next first slots
-    → IsPresent (place_in slots at) → IsPresent p → HasPut slots new at (arrival_in slots at) p 0 → ShowsSlots (set f (arrival_in slots at) p) next first new
-replace_shows f next first slots new at p k was present put =
-    let c = arrival_in slots at in
-    let none : IsIn at k.list → ⊥ = λ has. not_both (place_in slots at) (free_absent slots first k.list at k.free has) was in
-    changed f next first slots new at c c 0 p k put (λ _. refl) (λ u is same. ap (arrival_in slots) same)
-    (other_number f next first slots at k was) next first k.list (omega arith) (λ _. k.before at was)
-    (free_kept slots new at c 0 p first k.list put none k.free)
+pub replace_shows : (f : ℕ → Place) (next first : ℕ) (slots new : List Slot) (nodes after : List NodeData) (at generation : ℕ) (p : Place) → ShowsSlots f next first slots nodes
+    → IsPresent (place_in slots at) → IsPresent p → generation ≡ generation_in slots at → HasPut slots new at generation p → HasKey nodes after at (key_of nodes at)
+    → ShowsSlots (set f (key_of nodes at) p) next first new after
+replace_shows f next first slots new nodes after at generation p k was present same_one put key =
+    let c = key_of nodes at in
+    let none : IsIn at k.list → ⊥ = λ has. not_both (place_in slots at) (free_absent slots nodes first k.list at k.free has) was in
+    changed f next first slots new nodes after at c c generation p k put key (λ _. refl)
+    (subst (λ (g : ℕ). g ≤ MAX_GENERATION) (sym same_one) (k.generations at)) (λ _. subst (λ (g : ℕ). 0 < g) (sym same_one) (k.used at was))
+    (λ u is same. ap (key_of nodes) same)
+    (other_number f next first slots nodes at k was) next first k.list (omega arith) (λ _. k.before at was)
+    (free_kept slots new nodes after at c generation p first k.list put key none k.free)
     (λ u within absent. elim (cases_eq u at) [
-      | inl same ↦ absurd (not_both (place_in new u) absent (subst IsPresent (sym (place_here slots new at c 0 p put u same)) present))
-      | inr other ↦ k.all u (subst (λ (n : ℕ). u < n) put.len within) (sym (place_else slots new at c 0 p put u other) ∙ absent)
+      | inl same ↦ absurd (not_both (place_in new u) absent (subst IsPresent (sym (place_here slots new at generation p put u same)) present))
+      | inr other ↦ all_else f next first slots new nodes at generation p k put u other within absent
     ])
 
--- a job leaves its slot
-pub clear_shows : (f : ℕ → Place) (next first : ℕ) (slots new : List Slot) (at : ℕ) → ShowsSlots f next first slots → at < length slots
-    → IsPresent (place_in slots at) → HasPut slots new at 0 Absent (first + 1) → ShowsSlots (set f (arrival_in slots at) Absent) next at new
-clear_shows f next first slots new at k inside was put =
-    let none : IsIn at k.list → ⊥ = λ has. not_both (place_in slots at) (free_absent slots first k.list at k.free has) was in
-    let kept : AreFree new first k.list = free_kept slots new at 0 (first + 1) Absent first k.list put none k.free in
-    let to_next : next_after at (link_in new at) ≡ first = ap (next_after at) (link_here slots new at 0 (first + 1) Absent put at refl) ∙ after_more at first in
-    changed f next first slots new at (arrival_in slots at) 0 (first + 1) Absent k put (λ is. absurd is) (λ u is same. ap (arrival_in slots) same)
-    (other_number f next first slots at k was) next at (at ∷ k.list) (omega arith) (λ is. absurd is) (
+-- a job leaves its slot for ever
+pub retire_shows : (f : ℕ → Place) (next first : ℕ) (slots new : List Slot) (nodes : List NodeData) (at generation : ℕ) → ShowsSlots f next first slots nodes
+    → IsPresent (place_in slots at) → generation ≡ generation_in slots at → MAX_GENERATION ≤ generation → HasPut slots new at generation Absent
+    → ShowsSlots (set f (key_of nodes at) Absent) next first new nodes
+retire_shows f next first slots new nodes at generation k was same_one last put =
+    let c = key_of nodes at in
+    let few : generation ≤ MAX_GENERATION = subst (λ (g : ℕ). g ≤ MAX_GENERATION) (sym same_one) (k.generations at) in
+    let none : IsIn at k.list → ⊥ = λ has. not_both (place_in slots at) (free_absent slots nodes first k.list at k.free has) was in
+    let key : HasKey nodes nodes at c = record { here = refl; others = λ u other. refl } in
+    changed f next first slots new nodes nodes at c c generation Absent k put key (λ _. refl) few (λ is. absurd is)
+    (λ u is same. ap (key_of nodes) same)
+    (other_number f next first slots nodes at k was) next first k.list (omega arith) (λ is. absurd is)
+    (free_kept slots new nodes nodes at c generation Absent first k.list put key none k.free)
+    (λ u within absent. elim (cases_eq u at) [
+      | inl same ↦ inr (generation_here slots new at generation Absent put u same ∙ omega (arith, few, last))
+      | inr other ↦ all_else f next first slots new nodes at generation Absent k put u other within absent
+    ])
+
+-- a job leaves its slot, which is free now
+pub clear_shows : (f : ℕ → Place) (next first : ℕ) (slots new : List Slot) (nodes after : List NodeData) (at generation : ℕ) → ShowsSlots f next first slots nodes → at < length slots
+    → IsPresent (place_in slots at) → generation ≡ generation_in slots at → generation < MAX_GENERATION → HasPut slots new at generation Absent → HasKey nodes after at (first + 1)
+    → ShowsSlots (set f (key_of nodes at) Absent) next at new after
+clear_shows f next first slots new nodes after at generation k inside was same_one fewer put key =
+    let none : IsIn at k.list → ⊥ = λ has. not_both (place_in slots at) (free_absent slots nodes first k.list at k.free has) was in
+    let kept : AreFree new after first k.list = free_kept slots new nodes after at (first + 1) generation Absent first k.list put key none k.free in
+    let to_next : next_after at (key_of after at) ≡ first = ap (next_after at) key.here ∙ after_more at first in
+    changed f next first slots new nodes after at (key_of nodes at) (first + 1) generation Absent k put key (λ is. absurd is) (omega (arith, fewer)) (λ is. absurd is)
+    (λ u is same. ap (key_of nodes) same)
+    (other_number f next first slots nodes at k was) next at (at ∷ k.list) (omega arith) (λ is. absurd is) (
       refl,
       subst (λ (n : ℕ). at < n) (sym put.len) inside,
-      place_here slots new at 0 (first + 1) Absent put at refl,
+      place_here slots new at generation Absent put at refl,
+      subst (λ (g : ℕ). g < MAX_GENERATION) (sym (generation_here slots new at generation Absent put at refl)) fewer,
       none,
-      subst (λ (x : ℕ). AreFree new x k.list) (sym to_next) kept,
+      subst (λ (x : ℕ). AreFree new after x k.list) (sym to_next) kept,
     )
     (λ u within absent. elim (cases_eq u at) [
-      | inl same ↦ inl same
-      | inr other ↦ inr (k.all u (subst (λ (n : ℕ). u < n) put.len within) (sym (place_else slots new at 0 (first + 1) Absent put u other) ∙ absent))
+      | inl same ↦ inl (inl same)
+      | inr other ↦ elim (all_else f next first slots new nodes at generation Absent k put u other within absent) [
+        | inl has ↦ inl (inr has)
+        | inr retired ↦ inr retired
+      ]
     ])
   where
     after_more : (u v : ℕ) → next_after u (v + 1) ≡ v
     after_more u v = grind arith
 
--- each slot of a full table has a job
-pub full_has : (f : ℕ → Place) (next first : ℕ) (slots : List Slot) → ShowsSlots f next first slots → length slots ≤ first → (u : ℕ) → u < length slots
-    → IsPresent (place_in slots u)
-full_has f next first slots k full u within = elim (absent_or_present (place_in slots u)) [
-  | inl absent ↦ absurd (none_in k.list k.free (k.all u within absent))
-  | inr present ↦ present
+-- each slot of a full table has a job or is retired
+pub full_has : (f : ℕ → Place) (next first : ℕ) (slots : List Slot) (nodes : List NodeData) → ShowsSlots f next first slots nodes → length slots ≤ first → (u : ℕ) → u < length slots
+    → IsPresent (place_in slots u) ⊎ ((place_in slots u ≡ Absent) × (generation_in slots u ≡ MAX_GENERATION))
+full_has f next first slots nodes k full u within = elim (absent_or_present (place_in slots u)) [
+  | inl absent ↦ elim (k.all u within absent) [ inl has ↦ absurd (none_in k.list k.free has) | inr retired ↦ inr (absent, retired) ]
+  | inr present ↦ inl present
 ]
   where
-    none_in : (list : List ℕ) → AreFree slots first list → IsIn u list → ⊥
+    none_in : (list : List ℕ) → AreFree slots nodes first list → IsIn u list → ⊥
     none_in [] is has = has
     none_in (v ∷ rest) is has = omega (arith, is.0, is.1, full)
 
 -- a table without a job
-pub initial_shows : (slots : List Slot) (n : ℕ) → n ≤ MAX_SLOTS → slots ≡ replicate n (record { arrival = 0; place = Absent; link = 0 }) → length slots ≡ n
-    → ShowsSlots (λ j. Absent) 0 0 slots
-initial_shows slots n limit is len =
-    let at : (u : ℕ) → u < length slots → slot_in slots u ≡ record { arrival = 0; place = Absent; link = 0 } = λ u within. ap (λ (xs : List Slot). slot_in xs u) is ∙ all_unused n u (omega (arith, within, len)) in
-    let absent : (u : ℕ) → u < length slots → place_in slots u ≡ Absent = λ u within. ap (λ (s : Slot). s.place) (at u within) in
-    let links : (u : ℕ) → u < length slots → link_in slots u ≡ 0 = λ u within. ap (λ (s : Slot). s.link) (at u within) in
-    record {
-      limit = omega (arith, limit, len);
-      holds = λ u present. absurd (never u present);
-      before = λ u present. absurd (never u present);
-      slot = λ a present. absurd present;
-      once = λ u v pu pv one. absurd (never u pu);
-      list = run n 0;
-      free = run_free slots n 0 (omega (arith, len)) absent links;
-      all = λ u within none. run_has n 0 u (omega arith) (omega (arith, within, len));
-    }
+pub initial_shows : (slots : List Slot) (nodes : List NodeData) (n : ℕ) → n ≤ MAX_SLOTS → slots ≡ replicate n (record { generation = 0; place = Absent }) → length slots ≡ n
+    → ((u : ℕ) → key_of nodes u ≡ 0) → ShowsSlots (λ j. Absent) 0 0 slots nodes
+initial_shows slots nodes n limit is len links = record {
+  limit = omega (arith, limit, len);
+  generations = λ u. (let none : generation_in slots u ≡ 0 = ap (λ (s : Slot). s.generation) (unused u) in omega (arith, none));
+  used = λ u present. absurd (never u present);
+  holds = λ u present. absurd (never u present);
+  before = λ u present. absurd (never u present);
+  slot = λ a present. absurd present;
+  once = λ u v pu pv one. absurd (never u pu);
+  list = run n 0;
+  free = run_free slots nodes n 0 (omega (arith, len)) absent (λ u. ap (λ (s : Slot). s.generation) (unused u)) links;
+  all = λ u within none. inl (run_has n 0 u (omega arith) (omega (arith, within, len)));
+}
   where
-    never : (u : ℕ) → IsPresent (place_in slots u) → ⊥
-    never u present = elim (cases_lt u (length slots)) [
-      | inl within ↦ not_both (place_in slots u) (ap (λ (s : Slot). s.place) (ap (λ (xs : List Slot). slot_in xs u) is ∙ all_unused n u (omega (arith, within, len)))) present
-      | inr past ↦ not_both (place_in slots u) (ap (λ (s : Slot). s.place) (get_or_past slots u (record { arrival = 0; place = Absent; link = 0 }) past)) present
+    unused : (u : ℕ) → slot_in slots u ≡ record { generation = 0; place = Absent }
+    unused u = elim (cases_lt u (length slots)) [
+      | inl within ↦ ap (λ (xs : List Slot). slot_in xs u) is ∙ all_unused n u (omega (arith, within, len))
+      | inr past ↦ get_or_past slots u (record { generation = 0; place = Absent }) past
     ]
 
--- ---- through a vector
+    absent : (u : ℕ) → place_in slots u ≡ Absent
+    absent u = ap (λ (s : Slot). s.place) (unused u)
 
--- the first free slot gets a new job
-pub submit_done : (f : ℕ → Place) (v next first after len : ℕ) (slots read now new : List Slot) (p : Place) → v ≡ next → ShowsSlots f next first slots
-    → first < length slots → IsPresent p → len ≡ length slots → read ≡ slots → now ≡ slots → after ≡ next_after first (link_in read first)
-    → HasPut now new first next p 0 → ShowsSlots (set f v p) (next + 1) after (take len (new ++ drop (length new) slots))
-submit_done f v next first after len slots read now new p same k inside present count of_read of_now is_after put =
-    let own : HasPut slots new first next p 0 = subst (λ (xs : List Slot). HasPut xs new first next p 0) of_now put in
-    let then : after ≡ next_after first (link_in slots first) = is_after ∙ ap (λ (xs : List Slot). next_after first (link_in xs first)) of_read in
-    written len slots now new (λ (xs : List Slot). ShowsSlots (set f v p) (next + 1) after xs) count of_now put.len
-    (subst (λ (x : ℕ). ShowsSlots (set f x p) (next + 1) after new) (sym same)
-    (subst (λ (x : ℕ). ShowsSlots (set f next p) (next + 1) x new) (sym then) (submit_shows f next first slots new p k inside present own)))
-
--- a job has another place
-pub replace_done : (f : ℕ → Place) (next first len at number : ℕ) (slots read now new : List Slot) (p q : Place) → p ≡ q → ShowsSlots f next first slots
-    → IsPresent (place_in slots at) → IsPresent p → len ≡ length slots → read ≡ slots → now ≡ slots → number ≡ arrival_in read at
-    → HasPut now new at number p 0 → ShowsSlots (set f (arrival_in slots at) q) next first (take len (new ++ drop (length new) slots))
-replace_done f next first len at number slots read now new p q becomes k was present count of_read of_now is_number put =
-    let is : number ≡ arrival_in slots at = is_number ∙ ap (λ (xs : List Slot). arrival_in xs at) of_read in
-    let own : HasPut slots new at (arrival_in slots at) p 0 = subst (λ (x : ℕ). HasPut slots new at x p 0) is (subst (λ (xs : List Slot). HasPut xs new at number p 0) of_now put) in
-    written len slots now new (λ (xs : List Slot). ShowsSlots (set f (arrival_in slots at) q) next first xs) count of_now put.len
-    (subst (λ (x : Place). ShowsSlots (set f (arrival_in slots at) x) next first new) becomes (replace_shows f next first slots new at p k was present own))
-
--- a job leaves its slot
-pub clear_done : (f : ℕ → Place) (next first len at : ℕ) (slots now new : List Slot) → ShowsSlots f next first slots → at < length slots
-    → IsPresent (place_in slots at) → len ≡ length slots → now ≡ slots
-    → HasPut now new at 0 Absent (first + 1) → ShowsSlots (set f (arrival_in slots at) Absent) next at (take len (new ++ drop (length new) slots))
-clear_done f next first len at slots now new k inside was count of_now put =
-    written len slots now new (λ (xs : List Slot). ShowsSlots (set f (arrival_in slots at) Absent) next at xs) count of_now put.len
-    (clear_shows f next first slots new at k inside was (subst (λ (xs : List Slot). HasPut xs new at 0 Absent (first + 1)) of_now put))
-
--- the slots beside a written one are as they were
-pub others_done : (len at c link : ℕ) (p : Place) (slots now new : List Slot) → len ≡ length slots → now ≡ slots → HasPut now new at c p link
-    → (u : ℕ) → u ≢ at → (place_in (take len (new ++ drop (length new) slots)) u ≡ place_in slots u) × (arrival_in (take len (new ++ drop (length new) slots)) u ≡ arrival_in slots u)
-others_done len at c link p slots now new count of_now put u other =
-    written len slots now new (λ (xs : List Slot). (place_in xs u ≡ place_in slots u) × (arrival_in xs u ≡ arrival_in slots u)) count of_now put.len
-    (place_else now new at c link p put u other ∙ ap (λ (xs : List Slot). place_in xs u) of_now, arrival_else now new at c link p put u other ∙ ap (λ (xs : List Slot). arrival_in xs u) of_now)
-
--- a written slot has the new place
-pub place_done : (len at c link : ℕ) (p : Place) (slots now new : List Slot) → len ≡ length slots → now ≡ slots → HasPut now new at c p link
-    → place_in (take len (new ++ drop (length new) slots)) at ≡ p
-place_done len at c link p slots now new count of_now put =
-    written len slots now new (λ (xs : List Slot). place_in xs at ≡ p) count of_now put.len (place_here now new at c link p put at refl)
+    never : (u : ℕ) → IsPresent (place_in slots u) → ⊥
+    never u present = not_both (place_in slots u) (absent u) present

@@ -1,10 +1,14 @@
 -- Places that are present, and a slot after a write.
-use Rattle.std.proofs.Common.{◌≡◌, ◌≢◌, ℕ, ◌⊎◌, inl, inr, List, ◌++◌, length, take, drop, refl, sym, ◌∙◌, ap, subst}
+use Rattle.std.proofs.Common.{◌≡◌, ◌≢◌, ℕ, ◌<◌, ◌⊎◌, inl, inr, Bool, true, false, not, IsTrue, true≢false, List, ◌++◌, Some, length, take, drop, refl, sym, ◌∙◌, ap, subst}
 use Rattle.std.proofs.Math.Seq.{take-append_seam}
+use Rattle.std.proofs.lemmas.Bool.{cases_lt}
+use Rattle.std.proofs.lemmas.List.{get_or_past}
 use Rattle.sched_law.specs.declared.job.Place.{Place}
 use Rattle.sched_law.specs.declared.job.Place.TheVariants.{Absent, Waiting, Running}
+use Rattle.sched_law.specs.declared.job.SchedWait.{SchedWait}
+use Rattle.sched_law.proofs.SetLemmas.{none_is_some, same}
 use Rattle.sched_jobs.specs.declared.slots.Slot.{Slot}
-use Rattle.sched_jobs.specs.Slots.{IsPresent, arrival_in, link_in, place_in}
+use Rattle.sched_jobs.specs.Slots.{IsPresent, generation_in, line_at, line_of, place_in}
 use Rattle.sched_jobs.specs.Inner.{HasPut}
 
 -- a place is that of a job or not
@@ -17,27 +21,42 @@ absent_or_present (Running run) = inr tt
 pub not_both : (p : Place) → p ≡ Absent → IsPresent p → ⊥
 not_both p absent present = subst IsPresent absent present
 
--- what all slots have, a written vector has
-pub written : (len : ℕ) (old now new : List Slot) (Right : List Slot → Type 0) → len ≡ length old → now ≡ old → length new ≡ length now → Right new
+-- a job in a line waits
+pub in_line : (p : Place) (at : ℕ) → line_of p ≡ Some at → (wait : SchedWait) × (p ≡ Waiting wait) × (line_at wait.job.class wait.job.dim ≡ at)
+in_line Absent at is = absurd (none_is_some is)
+in_line (Waiting wait) at is = (wait, refl, same is)
+in_line (Running run) at is = absurd (none_is_some is)
+
+pub in_line_present : (p : Place) (at : ℕ) → line_of p ≡ Some at → IsPresent p
+in_line_present p at is = (let found = in_line p at is in subst IsPresent (sym found.1) tt)
+
+-- a job's slot is one of the table
+pub inside_table : (slots : List Slot) (u : ℕ) → IsPresent (place_in slots u) → u < length slots
+inside_table slots u present = elim (cases_lt u (length slots)) [
+  | inl within ↦ within
+  | inr past ↦ absurd (not_both (place_in slots u) (ap (λ (s : Slot). s.place) (get_or_past slots u (record { generation = 0; place = Absent }) past)) present)
+]
+
+-- what a list has, a written vector has
+pub written : {A : Type 0} (len : ℕ) (old now new : List A) (Right : List A → Type 0) → len ≡ length old → now ≡ old → length new ≡ length now → Right new
     → Right (take len (new ++ drop (length new) old))
 written len old now new Right count is same right =
     subst Right (sym (ap (λ k. take k (new ++ drop (length new) old)) (count ∙ sym (same ∙ ap length is)) ∙ take-append_seam new (drop (length new) old))) right
 
-module _ (old new : List Slot) (at c link : ℕ) (p : Place) (put : HasPut old new at c p link) where
+module _ (old new : List Slot) (at generation : ℕ) (p : Place) (put : HasPut old new at generation p) where
   pub place_here : (u : ℕ) → u ≡ at → place_in new u ≡ p
   place_here u same = ap (place_in new) same ∙ ap (λ (s : Slot). s.place) put.here
 
-  pub arrival_here : (u : ℕ) → u ≡ at → arrival_in new u ≡ c
-  arrival_here u same = ap (arrival_in new) same ∙ ap (λ (s : Slot). s.arrival) put.here
-
-  pub link_here : (u : ℕ) → u ≡ at → link_in new u ≡ link
-  link_here u same = ap (link_in new) same ∙ ap (λ (s : Slot). s.link) put.here
+  pub generation_here : (u : ℕ) → u ≡ at → generation_in new u ≡ generation
+  generation_here u same = ap (generation_in new) same ∙ ap (λ (s : Slot). s.generation) put.here
 
   pub place_else : (u : ℕ) → u ≢ at → place_in new u ≡ place_in old u
   place_else u other = ap (λ (s : Slot). s.place) (put.others u other)
 
-  pub arrival_else : (u : ℕ) → u ≢ at → arrival_in new u ≡ arrival_in old u
-  arrival_else u other = ap (λ (s : Slot). s.arrival) (put.others u other)
+  pub generation_else : (u : ℕ) → u ≢ at → generation_in new u ≡ generation_in old u
+  generation_else u other = ap (λ (s : Slot). s.generation) (put.others u other)
 
-  pub link_else : (u : ℕ) → u ≢ at → link_in new u ≡ link_in old u
-  link_else u other = ap (λ (s : Slot). s.link) (put.others u other)
+-- what is not false
+pub not_false : (b : Bool) → not b ≡ false → IsTrue b
+not_false true is = refl
+not_false false is = absurd (true≢false is)

@@ -1,41 +1,43 @@
 -- What is in the slots of a table.
-use Rattle.std.specs.Prelude.{ℕ, ◌+◌, ◌-◌, ◌==◌, if◌then◌else◌, List, slice_index_or}
+use Rattle.std.specs.Prelude.{ℕ, ◌+◌, ◌-◌, ◌*◌, ◌==◌, if◌then◌else◌, List, Option, Some, None, slice_index_or}
+use Rattle.cube_shape.specs.declared.limits.TheConstants.{MAX_BITMAP_DIM}
+use Rattle.sched_law.specs.declared.job.TheConstants.{NEVER}
 use Rattle.sched_law.specs.declared.job.Place.{Place}
 use Rattle.sched_law.specs.declared.job.Place.TheVariants.{Absent, Waiting, Running}
 use Rattle.sched_jobs.specs.declared.slots.Slot.{Slot}
 
 -- A slot. Past the end of a table there are only free ones.
 abbrev pub slot_in : List Slot → ℕ → Slot
-slot_in slots u = slice_index_or slots u (record { arrival = 0; place = Absent; link = 0 })
+slot_in slots u = slice_index_or slots u (record { generation = 0; place = Absent })
 
 -- Where the job of a slot is.
 abbrev pub place_in : List Slot → ℕ → Place
 place_in slots u = (slot_in slots u).place
 
--- The number of a slot's job.
-abbrev pub arrival_in : List Slot → ℕ → ℕ
-arrival_in slots u = (slot_in slots u).arrival
-
--- What a free slot says of the next one.
-abbrev pub link_in : List Slot → ℕ → ℕ
-link_in slots u = (slot_in slots u).link
+-- How many jobs a slot has had.
+abbrev pub generation_in : List Slot → ℕ → ℕ
+generation_in slots u = (slot_in slots u).generation
 
 -- The free slot after a free one: the next slot, if the link is 0, else one less than the link.
 abbrev pub next_after : ℕ → ℕ → ℕ
 next_after u link = if link == 0 then u + 1 else link - 1
-
--- The class of a job, or 0.
-abbrev pub class_of : Place → ℕ
-class_of Absent = 0
-class_of (Waiting wait) = wait.job.class
-class_of (Running run) = run.job.class
-
--- The class of a slot's job, or 0.
-abbrev pub class_in : List Slot → ℕ → ℕ
-class_in slots u = class_of (place_in slots u)
 
 -- The job is not over.
 abbrev pub IsPresent : Place → Type 0
 IsPresent Absent = ⊥
 IsPresent (Waiting wait) = Unit {0}
 IsPresent (Running run) = Unit {0}
+
+-- The line of a class and a dimension.
+abbrev pub line_at : ℕ → ℕ → ℕ
+line_at class dim = class * (MAX_BITMAP_DIM + 1) + dim
+
+-- The line of a job: that of its class and its dimension, if it waits.
+abbrev pub line_of : Place → Option ℕ
+line_of Absent = None
+line_of (Waiting wait) = Some (line_at wait.job.class wait.job.dim)
+line_of (Running run) = None
+
+-- The rank of an estimate: one less, or the largest number if it is not known.
+abbrev pub rank_of : ℕ → ℕ
+rank_of estimate = if estimate == 0 then NEVER else estimate - 1

@@ -1,15 +1,19 @@
 //! The jobs of a scheduler as a value.
 
-ghost use Rattle.std.specs.Prelude.{◌≡◌, ℕ, ◌+◌, ◌^◌, ◌<◌, ◌≤◌, min, Some, None, IfOk, IfSome, IfNone};
+ghost use Rattle.std.specs.Prelude.{◌≡◌, ◌≢◌, ℕ, ◌+◌, ◌^◌, ◌<◌, ◌≤◌, ◌⊎◌, Option, min, Some, None, IfOk, IfSome, IfNone, length};
 ghost use Rattle.sched_law.specs.declared.job.TheConstants.{NEVER as LAST};
-ghost use Rattle.sched_law.specs.declared.job.Place.TheVariants.{Waiting, Running};
+ghost use Rattle.sched_law.specs.declared.job.Place.{Place as PlaceData};
+ghost use Rattle.sched_law.specs.declared.job.Place.TheVariants.{Absent, Waiting, Running};
 ghost use Rattle.sched_law.specs.declared.job.SchedWait.{SchedWait as WaitData};
 ghost use Rattle.sched_law.specs.declared.job.SchedRun.{SchedRun as RunData};
-ghost use Rattle.sched_law.specs.State.{Sched, cancel, end_after, finish, initial, pass, start, submit};
-ghost use Rattle.sched_jobs.specs.Shows.{HasJob, HasNoneWaiting, HasOthers, IsFirstWaiting, ShowsJobs, arrival_of, capacity_of, place_of, ticket_of};
+ghost use Rattle.sched_law.specs.State.{Sched, cancel, end_after, finish, initial, pass, set, start, submit};
+ghost use Rattle.sched_jobs.specs.Lines.{HasLines, rank_in, slots_of};
+ghost use Rattle.sched_jobs.specs.Inner.{HasPut};
+ghost use Rattle.sched_jobs.specs.Shows.{HasGenerations, HasJob, HasNoneWaiting, HasOthers, IsFirstWaiting, IsRetired, ShowsJobs, ShowsSlots, arrival_of, capacity_of, generation_of, place_of, ticket_of};
 
-use crate::select::first_wanted;
-use crate::slots::{Slot, arrival_at, free_after, is_present, place_at, put};
+use crate::line_table::LineTable;
+use crate::lines::CLASSES;
+use crate::slots::{MAX_GENERATION, Slot, generation_at, is_present, place_at, put};
 use cube_shape::{MAX_BITMAP_DIM, Region};
 use sched_law::{Place, SchedJob, SchedRun, SchedWait};
 use std::alloc::{AllocError, Global};
@@ -23,10 +27,8 @@ pub struct Jobs {
     next: u64,
     free: u32,
     slots: Vec<Slot>,
+    lines: LineTable,
 }
-
-/// How many jobs can have tickets.
-pub const MAX_TICKETS: u64 = 1 << 40;
 
 impl Jobs {
     /// Creates a table for this many jobs, without a job.
@@ -37,10 +39,12 @@ impl Jobs {
             → ShowsJobs (initial n patience) made) }
     {
         let slots = vec![in alloc; Slot::UNUSED; capacity]?;
+        let lines = LineTable::new(alloc, capacity)?;
         Ok(Jobs {
             next: 0,
             free: 0,
             slots,
+            lines,
         })
     }
 
@@ -68,25 +72,26 @@ impl Jobs {
 
     /// Returns the number of a slot's job.
     pub fn arrival(&self, slot: u32) -> u64
-        requires { slot < capacity_of self.now }
+        requires slot { slot < capacity_of self.now }
+        requires shows { (w : Sched) × ShowsJobs w self.now }
         ensures { result ≡ arrival_of self.now slot }
     {
-        arrival_at(&self.slots, slot)
+        self.lines.key(slot)
     }
 
-    /// Returns a name for a slot's job, which no other job ever has.
+    /// Returns a name for a slot's job, which no other job ever has. It is not 0.
     pub fn ticket(&self, slot: u32) -> u64
-        requires limit { capacity_of self.now ≤ MAX_SLOTS }
-        requires inside { slot < capacity_of self.now }
-        requires arrival { arrival_of self.now slot < MAX_TICKETS }
-        ensures { result ≡ ticket_of self.now slot }
+        requires slot { slot < capacity_of self.now }
+        requires shows { (w : Sched) × ShowsJobs w self.now }
+        ensures ticket { result ≡ ticket_of self.now slot }
+        ensures some { HasJob self.now slot → 0 < result }
     {
-        arrival_at(&self.slots, slot) * MAX_SLOTS as u64 + slot as u64
+        generation_at(&self.slots, slot) * MAX_SLOTS as u64 + slot as u64
     }
 
     /// Returns the slot of the job with a ticket, if it is not over.
     pub fn find(&self, ticket: u64) -> Option<u32>
-        requires { capacity_of self.now ≤ MAX_SLOTS }
+        requires shows { (w : Sched) × ShowsJobs w self.now }
         ensures found { IfSome result (λ slot. slot < capacity_of self.now
             × HasJob self.now slot × (ticket ≡ ticket_of self.now slot)) }
         ensures none { IfNone result ((slot : ℕ) → slot < capacity_of self.now
@@ -96,7 +101,7 @@ impl Jobs {
         if slot as usize >= self.slots.len() {
             return None;
         }
-        if arrival_at(&self.slots, slot) != ticket / MAX_SLOTS as u64 {
+        if generation_at(&self.slots, slot) != ticket / MAX_SLOTS as u64 {
             return None;
         }
         if !is_present(&self.slots, slot) {
@@ -105,44 +110,28 @@ impl Jobs {
         Some(slot)
     }
 
-    /// Returns the first waiting job in order of those that need at most dimension `most`. It looks
-    /// at each slot.
-    pub fn first(&self, most: u32) -> Option<u32>
-        requires { capacity_of self.now ≤ MAX_SLOTS }
-        ensures first { (w : Sched) → ShowsJobs w self.now
-            → IfSome result (IsFirstWaiting (Some most) None 0 w self.now) }
-        ensures none { (w : Sched) → ShowsJobs w self.now
-            → IfNone result (HasNoneWaiting (Some most) None 0 w) }
-    {
-        first_wanted(&self.slots, Some(most), None, 0)
-    }
-
-    /// Returns the first waiting job in order that may pass the head. It needs at most dimension
-    /// `any`, or at most `most` and has a known estimate of at most `limit`. It looks at each slot.
-    pub fn first_passing(&self, any: Option<u32>, most: Option<u32>, limit: u64) -> Option<u32>
-        requires { capacity_of self.now ≤ MAX_SLOTS }
-        ensures first { (w : Sched) → ShowsJobs w self.now
-            → IfSome result (IsFirstWaiting any most limit w self.now) }
-        ensures none { (w : Sched) → ShowsJobs w self.now
-            → IfNone result (HasNoneWaiting any most limit w) }
-    {
-        first_wanted(&self.slots, any, most, limit)
-    }
-
-    /// Adds a waiting job, and returns its slot. Returns `None` only if each slot has a job; then
-    /// nothing changes.
+    /// Adds a waiting job, and returns its slot. Returns `None` only if each slot has a job or is
+    /// retired; then nothing changes.
     pub fn submit(&mut self, job: SchedJob) -> Option<u32>
         requires next { self.old.next < LAST }
+        requires class { job.class < CLASSES }
+        requires dim { job.dim ≤ MAX_BITMAP_DIM }
         requires shows { (w : Sched) × ShowsJobs w self.old }
         ensures capacity { capacity_of self.new ≡ capacity_of self.old }
         ensures none { IfNone result (self.new ≡ self.old) }
         ensures full { (w : Sched) → ShowsJobs w self.old → IfNone result ((slot : ℕ)
-            → slot < capacity_of self.old → HasJob self.old slot) }
+            → slot < capacity_of self.old → HasJob self.old slot ⊎ IsRetired self.old slot) }
+        ensures free { IfSome result (λ slot. (place_of self.old slot ≡ Absent)
+            × (generation_of self.old slot < MAX_GENERATION)) }
         ensures inside { IfSome result (λ slot. slot < capacity_of self.new) }
         ensures next { IfSome result (λ slot. self.new.next ≡ self.old.next + 1) }
         ensures place { IfSome result (λ slot. place_of self.new slot
             ≡ Waiting (record { job = job; passed = 0 })) }
         ensures arrival { IfSome result (λ slot. arrival_of self.new slot ≡ self.old.next) }
+        ensures generation { IfSome result (λ slot. generation_of self.new slot
+            ≡ generation_of self.old slot + 1) }
+        ensures generations { IfSome result (λ slot. (u : ℕ) → u ≢ slot
+            → generation_of self.new u ≡ generation_of self.old u) }
         ensures others { IfSome result (λ slot. HasOthers self.old self.new slot) }
         ensures shows { (w : Sched) → ShowsJobs w self.old
             → IfSome result (λ slot. ShowsJobs (submit job w) self.new) }
@@ -151,9 +140,11 @@ impl Jobs {
         if slot as usize >= self.slots.len() {
             return None;
         }
-        self.free = free_after(&self.slots, slot);
+        let generation = generation_at(&self.slots, slot) + 1;
+        self.free = self.lines.free_after(slot);
+        self.lines.join(&job, slot, self.next);
         let wait = SchedWait { job, passed: 0 };
-        put(&mut self.slots, slot, self.next, Place::Waiting(wait), 0);
+        put(&mut self.slots, slot, generation, Place::Waiting(wait));
         self.next += 1;
         Some(slot)
     }
@@ -165,10 +156,15 @@ impl Jobs {
         requires shows { (w : Sched) × ShowsJobs w self.old }
         ensures capacity { capacity_of self.new ≡ capacity_of self.old }
         ensures next { self.new.next ≡ self.old.next }
+        ensures generations { HasGenerations self.old self.new }
         ensures others { HasOthers self.old self.new slot }
         ensures shows { (w : Sched) → ShowsJobs w self.old
             → ShowsJobs (cancel (arrival_of self.old slot) w) self.new }
     {
+        let Place::Waiting(wait) = place_at(&self.slots, slot) else {
+            return;
+        };
+        self.lines.leave(&wait.job, slot);
         self.clear(slot);
     }
 
@@ -179,6 +175,7 @@ impl Jobs {
         requires shows { (w : Sched) × ShowsJobs w self.old }
         ensures capacity { capacity_of self.new ≡ capacity_of self.old }
         ensures next { self.new.next ≡ self.old.next }
+        ensures generations { HasGenerations self.old self.new }
         ensures others { HasOthers self.old self.new slot }
         ensures shows { (w : Sched) → ShowsJobs w self.old
             → ShowsJobs (finish (arrival_of self.old slot) w) self.new }
@@ -186,27 +183,44 @@ impl Jobs {
         self.clear(slot);
     }
 
-    // Makes a slot free.
+    // Makes a slot free, unless it has had as many jobs as it may have. It is in no line.
     fn clear(&mut self, slot: u32)
         requires inside { slot < capacity_of self.old }
         requires job { HasJob self.old slot }
-        requires shows { (w : Sched) × ShowsJobs w self.old }
+        requires count { slots_of self.old.lines ≡ capacity_of self.old }
+        requires slots { (place : ℕ → PlaceData) × ShowsSlots place self.old.next self.old.free
+            self.old.slots.items self.old.lines.nodes.items }
         ensures capacity { capacity_of self.new ≡ capacity_of self.old }
         ensures next { self.new.next ≡ self.old.next }
+        ensures put { HasPut self.old.slots.items self.new.slots.items slot
+            (generation_of self.old slot) Absent }
+        ensures generations { HasGenerations self.old self.new }
         ensures others { HasOthers self.old self.new slot }
-        ensures shows { (w : Sched) → ShowsJobs w self.old
-            → ShowsJobs (finish (arrival_of self.old slot) w) self.new }
+        ensures slots { (place : ℕ → PlaceData) → ShowsSlots place self.old.next self.old.free
+            self.old.slots.items self.old.lines.nodes.items
+            → ShowsSlots (set place (arrival_of self.old slot) Absent) self.new.next self.new.free
+            self.new.slots.items self.new.lines.nodes.items }
+        ensures count { slots_of self.new.lines ≡ slots_of self.old.lines }
+        ensures lines { (line : ℕ → Option ℕ) → HasLines self.old.lines line → line slot ≡ None
+            → HasLines self.new.lines line }
+        ensures ranks { (u : ℕ) → rank_in self.new.lines u ≡ rank_in self.old.lines u }
     {
-        let link = self.free + 1;
-        put(&mut self.slots, slot, 0, Place::Absent, link);
+        let generation = generation_at(&self.slots, slot);
+        put(&mut self.slots, slot, generation, Place::Absent);
+        if generation >= MAX_GENERATION {
+            return;
+        }
+        self.lines.set_key(slot, self.free as u64 + 1);
         self.free = slot;
     }
 
     /// Lets a waiting job run in a block, with this estimated end.
     pub fn start(&mut self, slot: u32, block: Region, end: u64)
         requires inside { slot < capacity_of self.old }
+        requires shows { (w : Sched) × ShowsJobs w self.old }
         ensures capacity { capacity_of self.new ≡ capacity_of self.old }
         ensures next { self.new.next ≡ self.old.next }
+        ensures generations { HasGenerations self.old self.new }
         ensures arrival { arrival_of self.new slot ≡ arrival_of self.old slot }
         ensures place { (wait : WaitData) → place_of self.old slot ≡ Waiting wait
             → place_of self.new slot ≡ Running (record {
@@ -222,13 +236,14 @@ impl Jobs {
         let Place::Waiting(wait) = place_at(&self.slots, slot) else {
             return;
         };
-        let arrival = arrival_at(&self.slots, slot);
+        let generation = generation_at(&self.slots, slot);
         let run = SchedRun {
             job: wait.job,
             block,
             end,
         };
-        put(&mut self.slots, slot, arrival, Place::Running(run), 0);
+        self.lines.leave(&wait.job, slot);
+        put(&mut self.slots, slot, generation, Place::Running(run));
     }
 
     /// Counts that a job with a block of dimension `k` passes a waiting one.
@@ -237,6 +252,7 @@ impl Jobs {
         requires dim { k ≤ MAX_BITMAP_DIM }
         ensures capacity { capacity_of self.new ≡ capacity_of self.old }
         ensures next { self.new.next ≡ self.old.next }
+        ensures generations { HasGenerations self.old self.new }
         ensures arrival { arrival_of self.new slot ≡ arrival_of self.old slot }
         ensures place { (wait : WaitData) → place_of self.old slot ≡ Waiting wait
             → place_of self.new slot ≡ Waiting (record {
@@ -251,13 +267,13 @@ impl Jobs {
         let Place::Waiting(wait) = place_at(&self.slots, slot) else {
             return;
         };
-        let arrival = arrival_at(&self.slots, slot);
+        let generation = generation_at(&self.slots, slot);
         let passed = passed_more(wait.passed, k);
         let after = SchedWait {
             job: wait.job,
             passed,
         };
-        put(&mut self.slots, slot, arrival, Place::Waiting(after), 0);
+        put(&mut self.slots, slot, generation, Place::Waiting(after));
     }
 }
 

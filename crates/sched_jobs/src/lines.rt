@@ -1,14 +1,50 @@
 //! Waiting slots in queues, one for each class and dimension.
 
-ghost use Rattle.std.specs.Prelude.{◌≡◌, ◌≢◌, ℕ, ◌<◌, ◌≤◌, Option, Some, None, IfSome, IfNone, length};
+ghost use Rattle.std.specs.Prelude.{◌≡◌, ◌≢◌, ℕ, ◌+◌, ◌<◌, ◌≤◌, List, Option, Some, None, IfSome, IfNone, IsTrue, length};
+ghost use Rattle.wait_queue.specs.declared.nodes.QueueNode.{QueueNode as NodeData};
+ghost use Rattle.wait_queue.specs.declared.queues.Queue.{Queue as QueueData};
 ghost use Rattle.wait_queue.specs.Nodes.{estimate_of, key_of};
 ghost use Rattle.sched_law.specs.State.{set};
-ghost use Rattle.sched_jobs.specs.Lines.{AreLines, CanJoin, IsFirstIn, IsFirstWithin};
+ghost use Rattle.sched_jobs.specs.Slots.{line_at};
+ghost use Rattle.sched_jobs.specs.Lines.{AreLines, CanJoin, HasNoneOf, IsFirstIn, IsFirstWithin};
 
-use wait_queue::{Queue, QueueNode, oldest, oldest_within, push, remove};
+use cube_shape::MAX_BITMAP_DIM;
+use wait_queue::{
+    Queue, QueueNode, is_empty, oldest, oldest_within, push, queues_rest_on_their_slots, remove,
+};
+
+/// The number of classes. The class of a job is below it.
+pub const CLASSES: u32 = 8;
+
+/// The number of dimensions of blocks.
+pub(crate) const DIMS: usize = MAX_BITMAP_DIM as usize + 1;
+
+/// The number of lines: one for each class and dimension.
+pub(crate) const LINES: usize = CLASSES as usize * DIMS;
+
+/// Returns the key of a slot.
+pub(crate) fn key_at(nodes: &[QueueNode], slot: u32) -> u64
+    requires { slot < length nodes.now }
+    ensures { result ≡ key_of nodes.now slot }
+{
+    nodes[slot as usize].key
+}
+
+/// Writes the key of a slot that is in no line.
+pub(crate) fn put_key(nodes: &mut [QueueNode], slot: u32, key: u64)
+    requires { slot < length nodes.old }
+    ensures lines { (queues : List QueueData) (line : ℕ → Option ℕ)
+        → AreLines nodes.old queues line → line slot ≡ None → AreLines nodes.new queues line }
+    ensures key { key_of nodes.new slot ≡ key }
+    ensures keys { (u : ℕ) → u ≢ slot → key_of nodes.new u ≡ key_of nodes.old u }
+    ensures estimates { (u : ℕ) → estimate_of nodes.new u ≡ estimate_of nodes.old u }
+{
+    nodes[slot as usize].key = key;
+    queues_rest_on_their_slots();
+}
 
 /// Appends a slot to a queue, with a key above all keys of this queue.
-pub fn join_line(
+pub(crate) fn join_line(
     nodes: &mut [QueueNode],
     queues: &mut [Queue],
     at: usize,
@@ -30,7 +66,7 @@ pub fn join_line(
 }
 
 /// Removes a slot from its queue.
-pub fn leave_line(nodes: &mut [QueueNode], queues: &mut [Queue], at: usize, slot: u32)
+pub(crate) fn leave_line(nodes: &mut [QueueNode], queues: &mut [Queue], at: usize, slot: u32)
     requires at { at < length queues.old }
     requires lines { (line : ℕ → Option ℕ) × (AreLines nodes.old queues.old line
         × (line slot ≡ Some at)) }
@@ -43,7 +79,7 @@ pub fn leave_line(nodes: &mut [QueueNode], queues: &mut [Queue], at: usize, slot
 }
 
 /// Returns the slot with the least key in a line.
-pub fn first_in_line(nodes: &[QueueNode], queues: &[Queue], at: usize) -> Option<u32>
+pub(crate) fn first_in_line(nodes: &[QueueNode], queues: &[Queue], at: usize) -> Option<u32>
     requires at { at < length queues.now }
     requires lines { (line : ℕ → Option ℕ) × AreLines nodes.now queues.now line }
     ensures first { (line : ℕ → Option ℕ) → AreLines nodes.now queues.now line
@@ -55,7 +91,12 @@ pub fn first_in_line(nodes: &[QueueNode], queues: &[Queue], at: usize) -> Option
 }
 
 /// Returns the slot with the least key among those of a line with an estimate of at most `limit`.
-pub fn first_within(nodes: &[QueueNode], queues: &[Queue], at: usize, limit: u64) -> Option<u32>
+pub(crate) fn first_within(
+    nodes: &[QueueNode],
+    queues: &[Queue],
+    at: usize,
+    limit: u64,
+) -> Option<u32>
     requires at { at < length queues.now }
     requires lines { (line : ℕ → Option ℕ) × AreLines nodes.now queues.now line }
     ensures first { (line : ℕ → Option ℕ) → AreLines nodes.now queues.now line
@@ -64,4 +105,18 @@ pub fn first_within(nodes: &[QueueNode], queues: &[Queue], at: usize, limit: u64
         → IfNone result ((u : ℕ) → line u ≡ Some at → limit < estimate_of nodes.now u) }
 {
     oldest_within(nodes, &queues[at], limit)
+}
+
+/// Returns whether no slot is in a line of a class.
+pub(crate) fn is_class_empty(queues: &[Queue], class: usize) -> bool
+    requires { line_at class MAX_BITMAP_DIM < length queues.now }
+    ensures { IsTrue result → (nodes : List NodeData) (line : ℕ → Option ℕ)
+        → AreLines nodes queues.now line → HasNoneOf line class }
+{
+    for dim in 0..DIMS {
+        if !is_empty(&queues[class * DIMS + dim]) {
+            return false;
+        }
+    }
+    true
 }

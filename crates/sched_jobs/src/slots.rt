@@ -3,26 +3,28 @@
 ghost use Rattle.std.specs.Prelude.{◌≡◌, ◌≢◌, ℕ, ◌+◌, ◌<◌, ◌≤◌, IsFalse, IsTrue, length};
 ghost use Rattle.sched_law.specs.declared.job.Place.{Place as PlaceData};
 ghost use Rattle.sched_law.specs.declared.job.Place.TheVariants.{Absent};
-ghost use Rattle.sched_jobs.specs.Slots.{IsPresent, arrival_in, class_in, link_in, next_after, place_in};
+ghost use Rattle.sched_jobs.specs.Slots.{IsPresent, generation_in, place_in};
 ghost use Rattle.sched_jobs.specs.Inner.{HasPut};
 
 use sched_law::Place;
-use wait_queue::MAX_SLOTS;
+
+/// The most jobs that a slot may have.
+pub const MAX_GENERATION: u64 = (1 << 40) - 1;
 
 /// A slot of a table.
 #[derive(Clone, Copy)]
 pub struct Slot {
-    pub(crate) arrival: u64,
+    /// How many jobs it has had.
+    pub(crate) generation: u64,
+    /// Where its job is.
     pub(crate) place: Place,
-    pub(crate) link: u32,
 }
 
 impl Slot {
     /// A slot before its first use.
     pub const UNUSED: Slot = Slot {
-        arrival: 0,
+        generation: 0,
         place: Place::Absent,
-        link: 0,
     };
 }
 
@@ -46,47 +48,26 @@ pub(crate) fn is_present(slots: &[Slot], slot: u32) -> bool
     false
 }
 
-/// Returns the class of a slot's job, or 0.
-pub(crate) fn class_at(slots: &[Slot], slot: u32) -> u32
+/// Returns how many jobs a slot has had.
+pub(crate) fn generation_at(slots: &[Slot], slot: u32) -> u64
     requires { slot < length slots.now }
-    ensures { result ≡ class_in slots.now slot }
+    ensures { result ≡ generation_in slots.now slot }
 {
-    match place_at(slots, slot) {
-        Place::Absent => 0,
-        Place::Waiting(wait) => wait.job.class,
-        Place::Running(run) => run.job.class,
-    }
+    slots[slot as usize].generation
 }
 
-/// Returns the number of a slot's job.
-pub(crate) fn arrival_at(slots: &[Slot], slot: u32) -> u64
-    requires { slot < length slots.now }
-    ensures { result ≡ arrival_in slots.now slot }
+// Writes a slot of a slice.
+fn put_in(slots: &mut [Slot], slot: u32, generation: u64, place: Place)
+    requires { slot < length slots.old }
+    ensures { HasPut slots.old slots.new slot generation place }
 {
-    slots[slot as usize].arrival
-}
-
-/// Returns the free slot after a free one, or the number of slots.
-pub(crate) fn free_after(slots: &[Slot], slot: u32) -> u32
-    requires slot { slot < length slots.now }
-    requires limit { length slots.now ≤ MAX_SLOTS }
-    ensures { result ≡ next_after slot (link_in slots.now slot) }
-{
-    let link = slots[slot as usize].link;
-    if link == 0 {
-        return slot + 1;
-    }
-    link - 1
+    slots[slot as usize] = Slot { generation, place };
 }
 
 /// Writes a slot.
-pub(crate) fn put(slots: &mut [Slot], slot: u32, arrival: u64, place: Place, link: u32)
-    requires { slot < length slots.old }
-    ensures { HasPut slots.old slots.new slot arrival place link }
+pub(crate) fn put(slots: &mut Vec<Slot>, slot: u32, generation: u64, place: Place)
+    requires { slot < length slots.old.items }
+    ensures { HasPut slots.old.items slots.new.items slot generation place }
 {
-    slots[slot as usize] = Slot {
-        arrival,
-        place,
-        link,
-    };
+    put_in(slots, slot, generation, place);
 }

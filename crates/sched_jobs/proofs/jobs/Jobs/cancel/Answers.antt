@@ -1,7 +1,31 @@
--- A waiting job is present.
-use Rattle.std.proofs.Common.{sym, subst}
-use Rattle.sched_jobs.specs.Slots.{IsPresent}
+-- A waiting job leaves its line, and then its slot.
+use Rattle.std.proofs.Common.{◌≡◌, ℕ, List, None, sym, ◌∙◌, subst, ap}
+use Rattle.sched_law.specs.declared.job.Place.TheVariants.{Absent, Waiting}
+use Rattle.sched_law.specs.State.{set}
+use Rattle.sched_law.proofs.SetLemmas.{absent_waits, set_here}
+use Rattle.sched_jobs.specs.declared.slots.Slot.{Slot}
+use Rattle.sched_jobs.specs.Slots.{generation_in, line_of, place_in}
+use Rattle.sched_jobs.specs.Shows.{ShowsSlots}
+use Rattle.sched_jobs.proofs.ShowLemmas.{slots_alike, waiting_changed}
 use Rattle.sched_jobs.proofs.jobs.Jobs.cancel.Goals as goal
 
-pub clear-requires-clause-job : goal.clear-requires-clause-job
-clear-requires-clause-job c = subst IsPresent (sym c.requires.job.1) tt
+pub clear-requires-clause-slots : goal.clear-requires-clause-slots
+clear-requires-clause-slots c = (
+  c.requires.shows.0.place,
+  slots_alike c.requires.shows.0.place c.args.self.now.next c.args.self.now.free c.args.self.now.slots.items c.args.self.now.lines.nodes.items c.leave.new.self.nodes.items c.leave.ensures.keys c.requires.shows.1.1,
+)
+
+pub returns-clause-shows : goal.returns-clause-shows
+returns-clause-shows c = λ w shows.
+    let mine : place_in c.args.self.now.slots.items c.args.slot ≡ Waiting c.in-Waiting.wait =
+    sym (sym c.in-Waiting.is ∙ c.place_at.ensures ∙ ap (λ (xs : List Slot). place_in xs c.args.slot) c.deref.ensures.value) in
+    let left = c.leave.ensures.lines (λ u. line_of (place_in c.args.self.now.slots.items u)) shows.2.shown (ap line_of mine) in
+    let same = slots_alike w.place c.args.self.now.next c.args.self.now.free c.args.self.now.slots.items c.args.self.now.lines.nodes.items c.leave.new.self.nodes.items c.leave.ensures.keys shows.1 in (
+      shows.0 ∙ sym c.clear.ensures.next,
+      subst (λ (x : ℕ). ShowsSlots (set w.place x Absent) c.clear.new.self.next c.clear.new.self.free c.clear.new.self.slots.items c.clear.new.self.lines.nodes.items) (c.leave.ensures.keys c.args.slot)
+          (c.clear.ensures.slots w.place same),
+      waiting_changed c.args.self.now.slots.items c.clear.new.self.slots.items c.args.self.now.lines c.clear.new.self.lines c.args.slot (generation_in c.args.self.now.slots.items c.args.slot) Absent shows.2
+          c.clear.ensures.put (c.clear.ensures.count ∙ c.leave.ensures.slots)
+          (c.clear.ensures.lines (set (λ u. line_of (place_in c.args.self.now.slots.items u)) c.args.slot None) left (set_here (λ u. line_of (place_in c.args.self.now.slots.items u)) c.args.slot None))
+          (λ u other. c.clear.ensures.ranks u ∙ c.leave.ensures.ranks u) (λ wait is. absurd (absent_waits is)),
+    )

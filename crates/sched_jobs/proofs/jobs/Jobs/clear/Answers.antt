@@ -1,22 +1,24 @@
--- The slot is the first free one.
-use Rattle.std.proofs.Common.{◌≤◌, ◌+◌, length, arith, rules}
-use Rattle.sched_jobs.proofs.FreeLemmas.{first_inside}
-use Rattle.sched_jobs.proofs.ChangeLemmas.{others_done, clear_done}
-use Rattle.sched_law.specs.declared.job.Place.TheVariants.{Absent}
+-- The slot is the first free one, or retired.
+use Rattle.std.proofs.Common.{◌≡◌, ◌≤◌, ◌<◌, List, ◌∙◌, ap, arith}
+use Rattle.sched_jobs.specs.declared.slots.TheConstants.{MAX_GENERATION}
+use Rattle.sched_jobs.specs.declared.slots.Slot.{Slot}
+use Rattle.sched_jobs.specs.Slots.{generation_in}
+use Rattle.sched_jobs.proofs.ChangeLemmas.{clear_shows, retire_shows}
 use Rattle.sched_jobs.proofs.jobs.Jobs.clear.Goals as goal
 
-pub overflow_add-link : goal.overflow_add-link
-overflow_add-link c =
-    let k = c.requires.shows.1.1 in
-    let inside : c.args.self.now.free ≤ length c.args.self.now.slots.items = first_inside c.args.self.now.slots.items c.args.self.now.free k.list k.free in
-    omega (arith, inside, k.limit)
+pub returns-then-generation-ge-MAX_GENERATION-clause-slots :
+    goal.returns-then-generation-ge-MAX_GENERATION-clause-slots
+returns-then-generation-ge-MAX_GENERATION-clause-slots c = λ place k.
+    let counted : c.generation_at-generation.result ≡ generation_in c.args.self.now.slots.items c.args.slot =
+    c.generation_at-generation.ensures ∙ ap (λ (xs : List Slot). generation_in xs c.args.slot) c.deref.ensures.value in
+    let last : MAX_GENERATION ≤ c.generation_at-generation.result = omega (arith, c.if-generation-ge-MAX_GENERATION.true) in
+    retire_shows place c.args.self.now.next c.args.self.now.free c.args.self.now.slots.items c.put.new.slots.items c.args.self.now.lines.nodes.items c.args.slot c.generation_at-generation.result
+    k c.requires.job counted last c.put.ensures
 
-pub returns-clause-shows : goal.returns-clause-shows
-returns-clause-shows c = λ w shows. (
-  shows.0,
-  clear_done w.place c.args.self.now.next c.args.self.now.free c.args.self.now.slots.len c.args.slot c.args.self.now.slots.items
-      c.deref_mut.result.now c.put.new.slots shows.1 c.requires.inside c.requires.job (search rules) c.deref_mut.ensures.value c.put.ensures,
-)
-
-pub returns-clause-others : goal.returns-clause-others
-returns-clause-others c = others_done c.args.self.now.slots.len c.args.slot 0 (c.args.self.now.free + 1) Absent c.args.self.now.slots.items c.deref_mut.result.now c.put.new.slots (search rules) c.deref_mut.ensures.value c.put.ensures
+pub returns-clause-slots : goal.returns-clause-slots
+returns-clause-slots c = λ place k.
+    let counted : c.generation_at-generation.result ≡ generation_in c.args.self.now.slots.items c.args.slot =
+    c.generation_at-generation.ensures ∙ ap (λ (xs : List Slot). generation_in xs c.args.slot) c.deref.ensures.value in
+    let fewer : c.generation_at-generation.result < MAX_GENERATION = omega (arith, c.if-generation-ge-MAX_GENERATION.false) in
+    clear_shows place c.args.self.now.next c.args.self.now.free c.args.self.now.slots.items c.put.new.slots.items c.args.self.now.lines.nodes.items c.set_key.new.self.nodes.items c.args.slot
+    c.generation_at-generation.result k c.requires.inside c.requires.job counted fewer c.put.ensures (record { here = c.set_key.ensures.key; others = c.set_key.ensures.keys })

@@ -1,0 +1,145 @@
+//! The queues of the waiting jobs of a table.
+
+ghost use Rattle.std.specs.Prelude.{◌≡◌, ◌≢◌, ℕ, ◌+◌, ◌*◌, ◌<◌, ◌≤◌, Bool, Option, Some, None, IfOk, length};
+ghost use Rattle.sched_law.specs.State.{set};
+ghost use Rattle.sched_jobs.specs.Slots.{line_at, next_after, rank_of};
+ghost use Rattle.sched_jobs.specs.Lines.{HasLines, MayJoin, flag_in, key_in, rank_in, slots_of};
+
+use crate::lines::{CLASSES, DIMS, LINES, is_class_empty, join_line, key_at, leave_line, put_key};
+use cube_shape::MAX_BITMAP_DIM;
+use sched_law::{NEVER, SchedJob};
+use std::alloc::{AllocError, Global};
+use wait_queue::{MAX_SLOTS, Queue, QueueNode};
+
+/// A queue for each class and dimension, over one node for each slot.
+#[derive(Drop)]
+pub struct LineTable {
+    pub(crate) nodes: Vec<QueueNode>,
+    pub(crate) queues: Vec<Queue>,
+    /// Whether a class may have waiting jobs.
+    pub(crate) used: Vec<bool>,
+}
+
+// Returns the rank of an estimate: the largest number if it is not known.
+fn rank(estimate: u64) -> u64
+    ensures { result ≡ rank_of estimate }
+{
+    if estimate == 0 {
+        return NEVER;
+    }
+    estimate - 1
+}
+
+// Returns the line of a job.
+fn line_number(job: &SchedJob) -> usize
+    requires class { job.now.class < CLASSES }
+    requires dim { job.now.dim ≤ MAX_BITMAP_DIM }
+    ensures { result ≡ line_at job.now.class job.now.dim }
+{
+    job.class as usize * DIMS + job.dim as usize
+}
+
+// Writes whether a class may have waiting jobs.
+fn set_flag(used: &mut [bool], class: usize, to: bool)
+    requires { class < length used.old }
+    ensures here { flag_in used.new class ≡ to }
+    ensures others { (c : ℕ) → c ≢ class → flag_in used.new c ≡ flag_in used.old c }
+{
+    used[class] = to;
+}
+
+impl LineTable {
+    /// Creates empty queues for this many slots.
+    pub(crate) fn new(alloc: Global, capacity: usize) -> Result<Self, AllocError>
+        requires { capacity ≤ MAX_SLOTS }
+        ensures slots { IfOk result (λ made. slots_of made ≡ capacity) }
+        ensures keys { IfOk result (λ made. (u : ℕ) → key_in made u ≡ 0) }
+        ensures lines { IfOk result (λ made. HasLines made (λ u. None)) }
+    {
+        let nodes = vec![in alloc; QueueNode::UNUSED; capacity]?;
+        let queues = vec![in alloc; Queue::new(); LINES]?;
+        let used = vec![in alloc; false; CLASSES as usize]?;
+        Ok(LineTable {
+            nodes,
+            queues,
+            used,
+        })
+    }
+
+    /// Returns the key of a slot.
+    pub(crate) fn key(&self, slot: u32) -> u64
+        requires { slot < slots_of self.now }
+        ensures { result ≡ key_in self.now slot }
+    {
+        key_at(&self.nodes, slot)
+    }
+
+    /// Returns the free slot after a free one, or the number of slots.
+    pub(crate) fn free_after(&self, slot: u32) -> u32
+        requires slot { slot < slots_of self.now }
+        requires slots { slots_of self.now ≤ MAX_SLOTS }
+        requires after { next_after slot (key_in self.now slot) ≤ MAX_SLOTS }
+        ensures { result ≡ next_after slot (key_in self.now slot) }
+    {
+        let link = self.key(slot);
+        if link == 0 {
+            return slot + 1;
+        }
+        (link - 1) as u32
+    }
+
+    /// Appends a slot to the line of its job, with a key above all keys there.
+    pub(crate) fn join(&mut self, job: &SchedJob, slot: u32, key: u64)
+        requires class { job.now.class < CLASSES }
+        requires dim { job.now.dim ≤ MAX_BITMAP_DIM }
+        requires slot { slot < slots_of self.old }
+        requires lines { (line : ℕ → Option ℕ)
+            × MayJoin self.old line (line_at job.now.class job.now.dim) slot key }
+        ensures lines { (line : ℕ → Option ℕ)
+            → MayJoin self.old line (line_at job.now.class job.now.dim) slot key
+            → HasLines self.new (set line slot (Some (line_at job.now.class job.now.dim))) }
+        ensures slots { slots_of self.new ≡ slots_of self.old }
+        ensures key { key_in self.new slot ≡ key }
+        ensures rank { rank_in self.new slot ≡ rank_of job.now.estimate }
+        ensures keys { (u : ℕ) → u ≢ slot → key_in self.new u ≡ key_in self.old u }
+        ensures ranks { (u : ℕ) → u ≢ slot → rank_in self.new u ≡ rank_in self.old u }
+    {
+        let at = line_number(job);
+        let estimate = rank(job.estimate);
+        join_line(&mut self.nodes, &mut self.queues, at, slot, key, estimate);
+        set_flag(&mut self.used, job.class as usize, true);
+    }
+
+    /// Removes a slot from the line of its job.
+    pub(crate) fn leave(&mut self, job: &SchedJob, slot: u32)
+        requires class { job.now.class < CLASSES }
+        requires dim { job.now.dim ≤ MAX_BITMAP_DIM }
+        requires lines { (line : ℕ → Option ℕ) × (HasLines self.old line
+            × (line slot ≡ Some (line_at job.now.class job.now.dim))) }
+        ensures lines { (line : ℕ → Option ℕ) → HasLines self.old line
+            → line slot ≡ Some (line_at job.now.class job.now.dim)
+            → HasLines self.new (set line slot None) }
+        ensures slots { slots_of self.new ≡ slots_of self.old }
+        ensures keys { (u : ℕ) → key_in self.new u ≡ key_in self.old u }
+        ensures ranks { (u : ℕ) → rank_in self.new u ≡ rank_in self.old u }
+    {
+        let at = line_number(job);
+        leave_line(&mut self.nodes, &mut self.queues, at, slot);
+        let class = job.class as usize;
+        let is_used = !is_class_empty(&self.queues, class);
+        set_flag(&mut self.used, class, is_used);
+    }
+
+    /// Writes the key of a slot that is in no line.
+    pub(crate) fn set_key(&mut self, slot: u32, key: u64)
+        requires { slot < slots_of self.old }
+        ensures lines { (line : ℕ → Option ℕ) → HasLines self.old line → line slot ≡ None
+            → HasLines self.new line }
+        ensures slots { slots_of self.new ≡ slots_of self.old }
+        ensures key { key_in self.new slot ≡ key }
+        ensures keys { (u : ℕ) → u ≢ slot → key_in self.new u ≡ key_in self.old u }
+        ensures ranks { (u : ℕ) → rank_in self.new u ≡ rank_in self.old u }
+    {
+        put_key(&mut self.nodes, slot, key);
+    }
+}
