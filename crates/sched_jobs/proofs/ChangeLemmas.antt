@@ -13,7 +13,7 @@ use Rattle.sched_jobs.specs.declared.slots.TheConstants.{MAX_GENERATION}
 use Rattle.sched_jobs.specs.declared.slots.Slot.{Slot}
 use Rattle.sched_jobs.specs.Slots.{IsPresent, generation_in, next_after, place_in, slot_in}
 use Rattle.sched_jobs.specs.Shows.{AreFree, IsIn, ShowsSlots}
-use Rattle.sched_jobs.specs.Inner.{HasKey, HasPut}
+use Rattle.sched_jobs.specs.Inner.Put.{HasKey, HasPut}
 use Rattle.sched_jobs.proofs.SlotLemmas.{absent_or_present, generation_else, generation_here, not_both, place_else, place_here}
 use Rattle.sched_jobs.proofs.FreeLemmas.{all_unused, first_inside, free_absent, free_kept, run, run_free, run_has}
 

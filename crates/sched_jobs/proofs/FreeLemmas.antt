@@ -10,7 +10,7 @@ use Rattle.sched_jobs.specs.declared.slots.TheConstants.{MAX_GENERATION}
 use Rattle.sched_jobs.specs.declared.slots.Slot.{Slot}
 use Rattle.sched_jobs.specs.Slots.{generation_in, next_after, place_in, slot_in}
 use Rattle.sched_jobs.specs.Shows.{AreFree, IsIn}
-use Rattle.sched_jobs.specs.Inner.{HasKey, HasPut}
+use Rattle.sched_jobs.specs.Inner.Put.{HasKey, HasPut}
 use Rattle.sched_jobs.proofs.SlotLemmas.{generation_else, place_else}
 
 -- the first free slot is at most the number of slots

@@ -5,4 +5,6 @@ pub mod LineLemmas
 pub mod FrontLemmas
 pub mod AlikeLemmas
 pub mod TableLemmas
+pub mod FitLemmas
+pub mod ChosenLemmas
 pub mod ShowLemmas

@@ -16,7 +16,7 @@ use Rattle.sched_jobs.specs.declared.line_table.LineTable.{LineTable}
 use Rattle.sched_jobs.specs.Slots.{line_of, next_after, place_in, rank_of, slot_in}
 use Rattle.sched_jobs.specs.Lines.{HasLines, MayJoin, rank_in, slots_of}
 use Rattle.sched_jobs.specs.Shows.{AreFree, ShowsSlots, ShowsWaiting}
-use Rattle.sched_jobs.specs.Inner.{HasPut}
+use Rattle.sched_jobs.specs.Inner.Put.{HasPut}
 use Rattle.sched_jobs.proofs.SlotLemmas.{in_line_present, place_else, place_here}
 use Rattle.sched_jobs.proofs.FreeLemmas.{all_unused}
 use Rattle.sched_jobs.proofs.AlikeLemmas.{shown_alike}

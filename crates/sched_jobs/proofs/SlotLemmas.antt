@@ -9,7 +9,7 @@ use Rattle.sched_law.specs.declared.job.SchedWait.{SchedWait}
 use Rattle.sched_law.proofs.SetLemmas.{none_is_some, same}
 use Rattle.sched_jobs.specs.declared.slots.Slot.{Slot}
 use Rattle.sched_jobs.specs.Slots.{IsPresent, generation_in, line_at, line_of, place_in}
-use Rattle.sched_jobs.specs.Inner.{HasPut}
+use Rattle.sched_jobs.specs.Inner.Put.{HasPut}
 
 -- a place is that of a job or not
 pub absent_or_present : (p : Place) → (p ≡ Absent) ⊎ IsPresent p

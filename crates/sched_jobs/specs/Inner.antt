@@ -1,18 +1,2 @@
--- A write of one slot, and a change of its key.
-use Rattle.std.specs.Prelude.{◌≡◌, ◌≢◌, ℕ, List, length}
-use Rattle.sched_law.specs.declared.job.Place.{Place}
-use Rattle.wait_queue.specs.declared.nodes.QueueNode.{QueueNode as NodeData}
-use Rattle.wait_queue.specs.Nodes.{key_of}
-use Rattle.sched_jobs.specs.declared.slots.Slot.{Slot}
-use Rattle.sched_jobs.specs.Slots.{slot_in}
-
--- One slot has these parts, and the others are as they were.
-pub record HasPut (old new : List Slot) (at generation : ℕ) (place : Place) : Type 0 where
-  pub len : length new ≡ length old
-  pub here : slot_in new at ≡ record { generation = generation; place = place }
-  pub others : (u : ℕ) → u ≢ at → slot_in new u ≡ slot_in old u
-
--- One slot has this key, and the others have the keys that they had.
-pub record HasKey (before after : List NodeData) (at key : ℕ) : Type 0 where
-  pub here : key_of after at ≡ key
-  pub others : (u : ℕ) → u ≢ at → key_of after u ≡ key_of before u
+pub mod Put
+pub mod Search

@@ -8,11 +8,12 @@ ghost use Rattle.sched_law.specs.declared.job.SchedWait.{SchedWait as WaitData};
 ghost use Rattle.sched_law.specs.declared.job.SchedRun.{SchedRun as RunData};
 ghost use Rattle.sched_law.specs.State.{Sched, cancel, end_after, finish, initial, pass, set, start, submit};
 ghost use Rattle.sched_jobs.specs.Lines.{HasLines, rank_in, slots_of};
-ghost use Rattle.sched_jobs.specs.Inner.{HasPut};
+ghost use Rattle.sched_jobs.specs.Inner.Put.{HasPut};
 ghost use Rattle.sched_jobs.specs.Shows.{HasGenerations, HasJob, HasNoneWaiting, HasOthers, IsFirstWaiting, IsRetired, ShowsJobs, ShowsSlots, arrival_of, capacity_of, generation_of, place_of, ticket_of};
 
 use crate::line_table::LineTable;
 use crate::lines::CLASSES;
+use crate::search::Wanted;
 use crate::slots::{MAX_GENERATION, Slot, generation_at, is_present, place_at, put};
 use cube_shape::{MAX_BITMAP_DIM, Region};
 use sched_law::{Place, SchedJob, SchedRun, SchedWait};
@@ -108,6 +109,30 @@ impl Jobs {
             return None;
         }
         Some(slot)
+    }
+
+    /// Returns the first waiting job in order of those that need at most dimension `most`.
+    pub fn first(&self, most: u32) -> Option<u32>
+        requires { (w : Sched) × ShowsJobs w self.now }
+        ensures first { (w : Sched) → ShowsJobs w self.now
+            → IfSome result (IsFirstWaiting (Some most) None 0 w self.now) }
+        ensures none { (w : Sched) → ShowsJobs w self.now
+            → IfNone result (HasNoneWaiting (Some most) None 0 w) }
+    {
+        self.first_passing(Some(most), None, 0)
+    }
+
+    /// Returns the first waiting job in order that may pass the head. It needs at most dimension
+    /// `any`, or at most `most` and has a known estimate of at most `limit`.
+    pub fn first_passing(&self, any: Option<u32>, most: Option<u32>, limit: u64) -> Option<u32>
+        requires { (w : Sched) × ShowsJobs w self.now }
+        ensures first { (w : Sched) → ShowsJobs w self.now
+            → IfSome result (IsFirstWaiting any most limit w self.now) }
+        ensures none { (w : Sched) → ShowsJobs w self.now
+            → IfNone result (HasNoneWaiting any most limit w) }
+    {
+        let wanted = Wanted::new(any, most, limit);
+        self.lines.first(&wanted)
     }
 
     /// Adds a waiting job, and returns its slot. Returns `None` only if each slot has a job or is

@@ -9,6 +9,7 @@ mod jobs;
 mod law;
 mod line_table;
 mod lines;
+mod search;
 mod slots;
 
 pub use jobs::Jobs;

@@ -4,8 +4,10 @@ ghost use Rattle.std.specs.Prelude.{◌≡◌, ◌≢◌, ℕ, ◌+◌, ◌*◌,
 ghost use Rattle.sched_law.specs.State.{set};
 ghost use Rattle.sched_jobs.specs.Slots.{line_at, next_after, rank_of};
 ghost use Rattle.sched_jobs.specs.Lines.{HasLines, MayJoin, flag_in, key_in, rank_in, slots_of};
+ghost use Rattle.sched_jobs.specs.Inner.Search.{IsChosen};
 
 use crate::lines::{CLASSES, DIMS, LINES, is_class_empty, join_line, key_at, leave_line, put_key};
+use crate::search::{Wanted, first_of_all};
 use cube_shape::MAX_BITMAP_DIM;
 use sched_law::{NEVER, SchedJob};
 use std::alloc::{AllocError, Global};
@@ -86,6 +88,15 @@ impl LineTable {
             return slot + 1;
         }
         (link - 1) as u32
+    }
+
+    /// Returns the slot that is wanted, of the first class, with the least key there.
+    pub(crate) fn first(&self, wanted: &Wanted) -> Option<u32>
+        requires { (line : ℕ → Option ℕ) × HasLines self.now line }
+        ensures { (line : ℕ → Option ℕ) → HasLines self.now line
+            → IsChosen self.now.nodes.items line wanted.now result }
+    {
+        first_of_all(&self.nodes, &self.queues, &self.used, wanted)
     }
 
     /// Appends a slot to the line of its job, with a key above all keys there.

@@ -4,7 +4,7 @@ ghost use Rattle.std.specs.Prelude.{◌≡◌, ◌≢◌, ℕ, ◌+◌, ◌<◌,
 ghost use Rattle.sched_law.specs.declared.job.Place.{Place as PlaceData};
 ghost use Rattle.sched_law.specs.declared.job.Place.TheVariants.{Absent};
 ghost use Rattle.sched_jobs.specs.Slots.{IsPresent, generation_in, place_in};
-ghost use Rattle.sched_jobs.specs.Inner.{HasPut};
+ghost use Rattle.sched_jobs.specs.Inner.Put.{HasPut};
 
 use sched_law::Place;
 
