@@ -6,5 +6,7 @@ pub mod FrontLemmas
 pub mod AlikeLemmas
 pub mod TableLemmas
 pub mod FitLemmas
+pub mod NumberLemmas
+pub mod CountLemmas
 pub mod ChosenLemmas
 pub mod ShowLemmas

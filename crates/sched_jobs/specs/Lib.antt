@@ -2,5 +2,7 @@ pub mod Slots
 pub mod Select
 pub mod Shows
 pub mod Lines
+pub mod Counts
 pub mod Inner
 pub use Rattle.sched_law.specs.State.{Sched, cancel, end_after, finish, initial, pass, start, submit}
+pub use Rattle.region_bits.specs.Count.{IsCount}

@@ -7,14 +7,16 @@ ghost use Rattle.sched_law.specs.declared.job.Place.TheVariants.{Absent, Waiting
 ghost use Rattle.sched_law.specs.declared.job.SchedWait.{SchedWait as WaitData};
 ghost use Rattle.sched_law.specs.declared.job.SchedRun.{SchedRun as RunData};
 ghost use Rattle.sched_law.specs.State.{Sched, cancel, end_after, finish, initial, pass, set, start, submit};
+ghost use Rattle.region_bits.specs.Count.{IsCount};
+ghost use Rattle.sched_jobs.specs.Counts.{DoesWait, HasNoneUsed, IsNextUsed, WaitsBefore};
 ghost use Rattle.sched_jobs.specs.Lines.{HasLines, rank_in, slots_of};
 ghost use Rattle.sched_jobs.specs.Inner.Put.{HasPut};
 ghost use Rattle.sched_jobs.specs.Shows.{HasGenerations, HasJob, HasNoneWaiting, HasOthers, IsFirstWaiting, IsRetired, ShowsJobs, ShowsSlots, arrival_of, capacity_of, generation_of, place_of, ticket_of};
 
 use crate::line_table::LineTable;
-use crate::lines::CLASSES;
+use crate::lines::{CLASSES, DIMS, LINES};
 use crate::search::Wanted;
-use crate::slots::{MAX_GENERATION, Slot, generation_at, is_present, place_at, put};
+use crate::slots::{MAX_GENERATION, Slot, generation_at, is_present, next_present, place_at, put};
 use cube_shape::{MAX_BITMAP_DIM, Region};
 use sched_law::{Place, SchedJob, SchedRun, SchedWait};
 use std::alloc::{AllocError, Global};
@@ -133,6 +135,44 @@ impl Jobs {
     {
         let wanted = Wanted::new(any, most, limit);
         self.lines.first(&wanted)
+    }
+
+    /// Returns how many jobs wait.
+    pub fn waiting(&self) -> u64
+        requires { (w : Sched) × ShowsJobs w self.now }
+        ensures { (w : Sched) → ShowsJobs w self.now → IsCount (DoesWait w) w.next result }
+    {
+        self.lines.count(0, LINES, None)
+    }
+
+    /// Returns how many waiting jobs come before the waiting job of a slot: those of a lower class,
+    /// and those of its class with a lesser number.
+    pub fn count_before(&self, slot: u32) -> u64
+        requires inside { slot < capacity_of self.now }
+        requires job { (wait : WaitData) × (place_of self.now slot ≡ Waiting wait) }
+        requires shows { (w : Sched) × ShowsJobs w self.now }
+        ensures { (w : Sched) (wait : WaitData) → ShowsJobs w self.now
+            → place_of self.now slot ≡ Waiting wait
+            → IsCount (WaitsBefore w (arrival_of self.now slot) wait.job) w.next result }
+    {
+        let Place::Waiting(wait) = place_at(&self.slots, slot) else {
+            return 0;
+        };
+        let first = wait.job.class as usize * DIMS;
+        let lower = self.lines.count(0, first, None);
+        lower
+            + self
+                .lines
+                .count(first, first + DIMS, Some(self.lines.key(slot)))
+    }
+
+    /// Returns the first slot from one on that has a job.
+    pub fn next_used(&self, from: u32) -> Option<u32>
+        requires { (w : Sched) × ShowsJobs w self.now }
+        ensures found { IfSome result (IsNextUsed self.now from) }
+        ensures none { IfNone result (HasNoneUsed self.now from) }
+    {
+        next_present(&self.slots, from)
     }
 
     /// Adds a waiting job, and returns its slot. Returns `None` only if each slot has a job or is

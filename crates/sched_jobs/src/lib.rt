@@ -5,6 +5,7 @@
 //! each class and dimension.
 #![tactic(auto)]
 
+mod counts;
 mod jobs;
 mod law;
 mod line_table;

@@ -1,11 +1,14 @@
 //! The queues of the waiting jobs of a table.
 
-ghost use Rattle.std.specs.Prelude.{◌≡◌, ◌≢◌, ℕ, ◌+◌, ◌*◌, ◌<◌, ◌≤◌, Bool, Option, Some, None, IfOk, length};
+ghost use Rattle.std.specs.Prelude.{◌≡◌, ◌≢◌, ℕ, ◌+◌, ◌*◌, ◌^◌, ◌<◌, ◌≤◌, Bool, Option, Some, None, IfOk, length};
 ghost use Rattle.sched_law.specs.State.{set};
 ghost use Rattle.sched_jobs.specs.Slots.{line_at, next_after, rank_of};
 ghost use Rattle.sched_jobs.specs.Lines.{HasLines, MayJoin, flag_in, key_in, rank_in, slots_of};
+ghost use Rattle.region_bits.specs.Count.{IsCount};
+ghost use Rattle.sched_jobs.specs.Inner.Numbers.{HasKeyFrom, HasNumbers};
 ghost use Rattle.sched_jobs.specs.Inner.Search.{IsChosen};
 
+use crate::counts::total;
 use crate::lines::{CLASSES, DIMS, LINES, is_class_empty, join_line, key_at, leave_line, put_key};
 use crate::search::{Wanted, first_of_all};
 use cube_shape::MAX_BITMAP_DIM;
@@ -97,6 +100,20 @@ impl LineTable {
             → IsChosen self.now.nodes.items line wanted.now result }
     {
         first_of_all(&self.nodes, &self.queues, &self.used, wanted)
+    }
+
+    /// Returns the number of slots with a key below the bound, if there is one, in the lines from
+    /// `first` on, up to `end`, which is left out.
+    pub(crate) fn count(&self, first: usize, end: usize, bound: Option<u64>) -> u64
+        requires first { first ≤ end }
+        requires end { end ≤ LINES }
+        requires lines { (line : ℕ → Option ℕ) × HasLines self.now line }
+        ensures few { result ≤ LINES * 2 ^ 32 }
+        ensures count { (line : ℕ → Option ℕ) (next : ℕ) → HasLines self.now line
+            → HasNumbers self.now.nodes.items line next
+            → IsCount (HasKeyFrom self.now.nodes.items line first end bound) next result }
+    {
+        total(&self.nodes, &self.queues, first, end, bound)
     }
 
     /// Appends a slot to the line of its job, with a key above all keys there.

@@ -1,12 +1,14 @@
 //! The slots of a table of jobs.
 
-ghost use Rattle.std.specs.Prelude.{◌≡◌, ◌≢◌, ℕ, ◌+◌, ◌<◌, ◌≤◌, IsFalse, IsTrue, length};
+ghost use Rattle.std.specs.Prelude.{◌≡◌, ◌≢◌, ℕ, ◌+◌, ◌<◌, ◌≤◌, IfSome, IfNone, IsFalse, IsTrue, length};
 ghost use Rattle.sched_law.specs.declared.job.Place.{Place as PlaceData};
 ghost use Rattle.sched_law.specs.declared.job.Place.TheVariants.{Absent};
 ghost use Rattle.sched_jobs.specs.Slots.{IsPresent, generation_in, place_in};
+ghost use Rattle.sched_jobs.specs.Counts.{HasNoneIn, IsNextIn};
 ghost use Rattle.sched_jobs.specs.Inner.Put.{HasPut};
 
 use sched_law::Place;
+use wait_queue::MAX_SLOTS;
 
 /// The most jobs that a slot may have.
 pub const MAX_GENERATION: u64 = (1 << 40) - 1;
@@ -46,6 +48,21 @@ pub(crate) fn is_present(slots: &[Slot], slot: u32) -> bool
         return true;
     };
     false
+}
+
+/// Returns the first slot from one on that has a job.
+pub(crate) fn next_present(slots: &[Slot], from: u32) -> Option<u32>
+    requires { length slots.now ≤ MAX_SLOTS }
+    ensures found { IfSome result (IsNextIn slots.now from) }
+    ensures none { IfNone result (HasNoneIn slots.now from) }
+{
+    let count = slots.len() as u32;
+    for slot in from..count {
+        if is_present(slots, slot) {
+            return Some(slot);
+        }
+    }
+    None
 }
 
 /// Returns how many jobs a slot has had.

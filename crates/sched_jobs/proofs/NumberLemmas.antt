@@ -1,0 +1,144 @@
+-- Counts of numbers, of the keys of a list of slots, and of those of lines.
+use Rattle.std.proofs.Common.{◌≡◌, ℕ, zero, suc, ◌+◌, ◌<◌, ◌≤◌, ◌⊎◌, inl, inr, Bool, cond, ltb, List, [], ◌∷◌, Option, Some, None, length, refl, sym, ◌∙◌, ap, subst, arith}
+use Rattle.std.proofs.lemmas.Bool.{cases_eq, cases_lt, le-ltb, lt-ltb}
+use Rattle.std.proofs.lemmas.List.Sums.{sum_by-cons}
+use Rattle.region_bits.specs.Count.{IsCount}
+use Rattle.wait_queue.specs.declared.nodes.QueueNode.{QueueNode as NodeData}
+use Rattle.wait_queue.specs.declared.queues.Queue.{Queue as QueueData}
+use Rattle.wait_queue.specs.Nodes.{key_of}
+use Rattle.wait_queue.specs.Lists.{Has, IsRising}
+use Rattle.sched_law.proofs.SetLemmas.{same}
+use Rattle.sched_jobs.specs.Lines.{IsLine}
+use Rattle.sched_jobs.specs.Inner.Numbers.{HasKeyFrom, HasKeyIn, HasNumbers, IsBelow, counted}
+
+-- no number is so
+pub count_none : (P : ℕ → Type 0) (n : ℕ) → ((i : ℕ) → P i → ⊥) → IsCount P n 0
+count_none P zero none = refl
+count_none P (suc m) none = inr (none m, count_none P m none)
+
+-- the same numbers
+pub count_alike : (P Q : ℕ → Type 0) (n count : ℕ) → ((i : ℕ) → P i → Q i) → ((i : ℕ) → Q i → P i) → IsCount P n count → IsCount Q n count
+count_alike P Q zero count to from is = is
+count_alike P Q (suc m) count to from (inl is) = inl (to m is.0, (is.1.0, is.1.1, count_alike P Q m is.1.0 to from is.1.2))
+count_alike P Q (suc m) count to from (inr is) = inr (λ q. is.0 (from m q), count_alike P Q m count to from is.1)
+
+-- the numbers of either kind
+pub count_both : (P Q : ℕ → Type 0) (n one other sum : ℕ) → ((i : ℕ) → P i → Q i → ⊥) → one + other ≡ sum → IsCount P n one → IsCount Q n other → IsCount (λ i. P i ⊎ Q i) n sum
+count_both P Q zero one other sum apart total first second = omega (arith, total, first, second)
+count_both P Q (suc m) one other sum apart total (inl is) (inl also) = absurd (apart m is.0 also.0)
+count_both P Q (suc m) one other sum apart total (inl is) (inr not) =
+    (let less : one ≡ is.1.0 + 1 = is.1.1 in
+    inl (inl is.0, (is.1.0 + other, omega (arith, total, less), count_both P Q m is.1.0 other (is.1.0 + other) apart refl is.1.2 not.1)))
+count_both P Q (suc m) one other sum apart total (inr not) (inl is) =
+    (let less : other ≡ is.1.0 + 1 = is.1.1 in
+    inl (inr is.0, (one + is.1.0, omega (arith, total, less), count_both P Q m one is.1.0 (one + is.1.0) apart refl not.1 is.1.2)))
+count_both P Q (suc m) one other sum apart total (inr not) (inr neither) =
+    inr (λ has. elim has [ inl p ↦ not.0 p | inr q ↦ neither.0 q ], count_both P Q m one other sum apart total not.1 neither.1)
+
+-- one number
+pub count_one : (m n : ℕ) → m < n → IsCount (λ i. i ≡ m) n 1
+count_one m zero less = absurd (omega (arith, less))
+count_one m (suc n) less = elim (cases_eq n m) [
+  | inl same ↦ inl (same, (0, refl, below n same))
+  | inr other ↦ inr (other, count_one m n (omega (arith, less, other)))
+]
+  where
+    none_below : (k : ℕ) → k ≤ m → IsCount (λ i. i ≡ m) k 0
+    none_below zero low = refl
+    none_below (suc k) low = inr ((λ same. absurd (omega (arith, low, same))), none_below k (omega (arith, low)))
+
+    below : (k : ℕ) → k ≡ m → IsCount (λ i. i ≡ m) k 0
+    below k same = none_below k (omega (arith, same))
+
+-- one number, if it is below a bound
+pub count_if_below : (bound : Option ℕ) (m n : ℕ) → m < n → IsBelow bound m → IsCount (λ i. (i ≡ m) × IsBelow bound i) n 1
+count_if_below bound m n less is =
+    count_alike (λ i. i ≡ m) (λ i. (i ≡ m) × IsBelow bound i) n 1 (λ i one. (one, subst (IsBelow bound) (sym one) is)) (λ i has. has.0) (count_one m n less)
+
+pub count_if_past : (bound m n : ℕ) → bound ≤ m → IsCount (λ i. (i ≡ m) × (i < bound)) n 0
+count_if_past bound m n past = count_none (λ i. (i ≡ m) × (i < bound)) n (λ i has. (let one : i ≡ m = has.0 in let less : i < bound = has.1 in omega (arith, one, less, past)))
+
+-- number `i` is the key of a slot of a list, and below the bound
+abbrev pub HasKeyOf : List NodeData → List ℕ → Option ℕ → ℕ → Type 0
+HasKeyOf nodes xs bound i = (u : ℕ) × Has xs u × (key_of nodes u ≡ i) × IsBelow bound i
+
+module _ (nodes : List NodeData) (next : ℕ) where
+  -- one more slot
+  key_more : (bound : Option ℕ) (x : ℕ) (xs : List ℕ) (one rest all : ℕ) → IsRising nodes (x ∷ xs) → one + rest ≡ all
+      → IsCount (λ i. (i ≡ key_of nodes x) × IsBelow bound i) next one → IsCount (HasKeyOf nodes xs bound) next rest → IsCount (HasKeyOf nodes (x ∷ xs) bound) next all
+  key_more bound x xs one rest all rising total first second =
+      count_alike (λ i. ((i ≡ key_of nodes x) × IsBelow bound i) ⊎ HasKeyOf nodes xs bound i) (HasKeyOf nodes (x ∷ xs) bound) next all to from
+      (count_both (λ i. (i ≡ key_of nodes x) × IsBelow bound i) (HasKeyOf nodes xs bound) next one rest all apart total first second)
+    where
+      apart : (i : ℕ) → (i ≡ key_of nodes x) × IsBelow bound i → HasKeyOf nodes xs bound i → ⊥
+      apart i is has = (let less = rising.0 has.0 has.1 in let mine : i ≡ key_of nodes x = is.0 in let theirs = has.2 in omega (arith, less, mine, theirs))
+
+      to : (i : ℕ) → ((i ≡ key_of nodes x) × IsBelow bound i) ⊎ HasKeyOf nodes xs bound i → HasKeyOf nodes (x ∷ xs) bound i
+      to i (inl is) = (x, inl refl, sym is.0, is.1)
+      to i (inr has) = (has.0, inr has.1, has.2, has.3)
+
+      from : (i : ℕ) → HasKeyOf nodes (x ∷ xs) bound i → ((i ≡ key_of nodes x) × IsBelow bound i) ⊎ HasKeyOf nodes xs bound i
+      from i has = elim has.1 [
+        | inl one ↦ inl (sym has.2 ∙ ap (key_of nodes) one, has.3)
+        | inr later ↦ inr (has.0, later, has.2, has.3)
+      ]
+
+  pub keys_counted : (bound : Option ℕ) (xs : List ℕ) → IsRising nodes xs → ((u : ℕ) → Has xs u → key_of nodes u < next) → IsCount (HasKeyOf nodes xs bound) next (counted nodes bound xs)
+  keys_counted None [] rising below = count_none (HasKeyOf nodes [] None) next (λ i has. has.1)
+  keys_counted (Some bound) [] rising below = count_none (HasKeyOf nodes [] (Some bound)) next (λ i has. has.1)
+  keys_counted None (x ∷ xs) rising below =
+      key_more None x xs 1 (length xs) (length (x ∷ xs)) rising (omega arith) (count_if_below None (key_of nodes x) next (below x (inl refl)) tt)
+      (keys_counted None xs rising.1 (λ u has. below u (inr has)))
+  keys_counted (Some bound) (x ∷ xs) rising below =
+      let step = sym (sum_by-cons (λ u. cond (ltb (key_of nodes u) bound) 1 0) x xs) in
+      let rest = keys_counted (Some bound) xs rising.1 (λ u has. below u (inr has)) in
+      elim (cases_lt (key_of nodes x) bound) [
+        | inl less ↦
+            key_more (Some bound) x xs 1 (counted nodes (Some bound) xs) (counted nodes (Some bound) (x ∷ xs)) rising
+            (ap (λ (b : Bool). cond b 1 0 + counted nodes (Some bound) xs) (sym (lt-ltb (key_of nodes x) bound less)) ∙ step)
+            (count_if_below (Some bound) (key_of nodes x) next (below x (inl refl)) less) rest
+        | inr past ↦
+            key_more (Some bound) x xs 0 (counted nodes (Some bound) xs) (counted nodes (Some bound) (x ∷ xs)) rising
+            (ap (λ (b : Bool). cond b 1 0 + counted nodes (Some bound) xs) (sym (le-ltb (key_of nodes x) bound past)) ∙ step)
+            (count_if_past bound (key_of nodes x) next past) rest
+      ]
+
+-- the keys of one line
+pub line_counted : (nodes : List NodeData) (queues : List QueueData) (line : ℕ → Option ℕ) (q next : ℕ) (bound : Option ℕ) (count : ℕ) → (is : IsLine nodes queues line q)
+    → HasNumbers nodes line next → count ≡ counted nodes bound is.slots → IsCount (HasKeyIn nodes line q bound) next count
+line_counted nodes queues line q next bound count is numbers right =
+    subst (IsCount (HasKeyIn nodes line q bound) next) (sym right)
+    (count_alike (HasKeyOf nodes is.slots bound) (HasKeyIn nodes line q bound) next (counted nodes bound is.slots)
+    (λ i has. (has.0, is.only has.0 has.1, has.2, has.3)) (λ i has. (has.0, is.all has.0 has.1, has.2, has.3))
+    (keys_counted nodes next bound is.slots is.is_queue.rising (λ u has. numbers.before u q (is.only u has))))
+
+-- one more line
+pub lines_more : (nodes : List NodeData) (line : ℕ → Option ℕ) (first at next : ℕ) (bound : Option ℕ) (before one after : ℕ) → HasNumbers nodes line next → first ≤ at
+    → before + one ≡ after → IsCount (HasKeyFrom nodes line first at bound) next before → IsCount (HasKeyIn nodes line at bound) next one
+    → IsCount (HasKeyFrom nodes line first (at + 1) bound) next after
+lines_more nodes line first at next bound before one after numbers inside total some more =
+    count_alike (λ i. HasKeyFrom nodes line first at bound i ⊎ HasKeyIn nodes line at bound i) (HasKeyFrom nodes line first (at + 1) bound) next after to from
+    (count_both (HasKeyFrom nodes line first at bound) (HasKeyIn nodes line at bound) next before one after apart total some more)
+  where
+    apart : (i : ℕ) → HasKeyFrom nodes line first at bound i → HasKeyIn nodes line at bound i → ⊥
+    apart i has mine =
+        let theirs = has.3 in
+        let less : has.0 < at = has.2 in
+        let one_slot : theirs.0 ≡ mine.0 = numbers.once theirs.0 mine.0 has.0 at theirs.1 mine.1 (theirs.2 ∙ sym mine.2) in
+        let one_line : has.0 ≡ at = same (sym theirs.1 ∙ ap line one_slot ∙ mine.1) in
+        omega (arith, less, one_line)
+
+    to : (i : ℕ) → HasKeyFrom nodes line first at bound i ⊎ HasKeyIn nodes line at bound i → HasKeyFrom nodes line first (at + 1) bound i
+    to i (inl has) = (has.0, has.1, (let less : has.0 < at = has.2 in omega (arith, less)), has.3)
+    to i (inr has) = (at, inside, omega arith, has)
+
+    from : (i : ℕ) → HasKeyFrom nodes line first (at + 1) bound i → HasKeyFrom nodes line first at bound i ⊎ HasKeyIn nodes line at bound i
+    from i has = elim (cases_eq has.0 at) [
+      | inl one ↦ inr (subst (λ (q : ℕ). HasKeyIn nodes line q bound i) one has.3)
+      | inr other ↦ inl (has.0, has.1, (let less : has.0 < at + 1 = has.2 in omega (arith, less, other)), has.3)
+    ]
+
+-- no line
+pub no_lines : (nodes : List NodeData) (line : ℕ → Option ℕ) (first next : ℕ) (bound : Option ℕ) → IsCount (HasKeyFrom nodes line first first bound) next 0
+no_lines nodes line first next bound =
+    count_none (HasKeyFrom nodes line first first bound) next (λ i has. (let from : first ≤ has.0 = has.1 in let less : has.0 < first = has.2 in omega (arith, from, less)))
