@@ -11,7 +11,7 @@ use Rattle.sched_law.specs.State.{set}
 use Rattle.sched_law.proofs.SetLemmas.{set_else, set_here}
 use Rattle.sched_jobs.specs.declared.slots.TheConstants.{MAX_GENERATION}
 use Rattle.sched_jobs.specs.declared.slots.Slot.{Slot}
-use Rattle.sched_jobs.specs.Slots.{IsPresent, generation_in, next_after, place_in, slot_in}
+use Rattle.sched_jobs.specs.Slots.{IsPresent, generation_in, next_after, place_by, place_in, slot_in, unused}
 use Rattle.sched_jobs.specs.Shows.{AreFree, IsIn, ShowsSlots}
 use Rattle.sched_jobs.specs.Inner.Put.{HasKey, HasPut}
 use Rattle.sched_jobs.proofs.SlotLemmas.{absent_or_present, generation_else, generation_here, not_both, place_else, place_here}
@@ -236,29 +236,29 @@ full_has f next first slots nodes k full u within = elim (absent_or_present (pla
     none_in (v ∷ rest) is has = omega (arith, is.0, is.1, full)
 
 -- a table without a job
-pub initial_shows : (slots : List Slot) (nodes : List NodeData) (n : ℕ) → n ≤ MAX_SLOTS → slots ≡ replicate n (record { generation = 0; place = Absent }) → length slots ≡ n
+pub initial_shows : (slots : List Slot) (nodes : List NodeData) (n : ℕ) → n ≤ MAX_SLOTS → slots ≡ replicate n unused → length slots ≡ n
     → ((u : ℕ) → key_of nodes u ≡ 0) → ShowsSlots (λ j. Absent) 0 0 slots nodes
 initial_shows slots nodes n limit is len links = record {
   limit = omega (arith, limit, len);
-  generations = λ u. (let none : generation_in slots u ≡ 0 = ap (λ (s : Slot). s.generation) (unused u) in omega (arith, none));
+  generations = λ u. (let none : generation_in slots u ≡ 0 = ap (λ (s : Slot). s.generation) (at_first u) in omega (arith, none));
   used = λ u present. absurd (never u present);
   holds = λ u present. absurd (never u present);
   before = λ u present. absurd (never u present);
   slot = λ a present. absurd present;
   once = λ u v pu pv one. absurd (never u pu);
   list = run n 0;
-  free = run_free slots nodes n 0 (omega (arith, len)) absent (λ u. ap (λ (s : Slot). s.generation) (unused u)) links;
+  free = run_free slots nodes n 0 (omega (arith, len)) absent (λ u. ap (λ (s : Slot). s.generation) (at_first u)) links;
   all = λ u within none. inl (run_has n 0 u (omega arith) (omega (arith, within, len)));
 }
   where
-    unused : (u : ℕ) → slot_in slots u ≡ record { generation = 0; place = Absent }
-    unused u = elim (cases_lt u (length slots)) [
+    at_first : (u : ℕ) → slot_in slots u ≡ unused
+    at_first u = elim (cases_lt u (length slots)) [
       | inl within ↦ ap (λ (xs : List Slot). slot_in xs u) is ∙ all_unused n u (omega (arith, within, len))
-      | inr past ↦ get_or_past slots u (record { generation = 0; place = Absent }) past
+      | inr past ↦ get_or_past slots u unused past
     ]
 
     absent : (u : ℕ) → place_in slots u ≡ Absent
-    absent u = ap (λ (s : Slot). s.place) (unused u)
+    absent u = ap (λ (s : Slot). place_by s s.phase) (at_first u)
 
     never : (u : ℕ) → IsPresent (place_in slots u) → ⊥
     never u present = not_both (place_in slots u) (absent u) present

@@ -8,7 +8,7 @@ use Rattle.sched_law.specs.declared.job.Place.{Place}
 use Rattle.sched_law.specs.declared.job.Place.TheVariants.{Absent}
 use Rattle.sched_jobs.specs.declared.slots.TheConstants.{MAX_GENERATION}
 use Rattle.sched_jobs.specs.declared.slots.Slot.{Slot}
-use Rattle.sched_jobs.specs.Slots.{generation_in, next_after, place_in, slot_in}
+use Rattle.sched_jobs.specs.Slots.{generation_in, next_after, place_in, slot_in, unused}
 use Rattle.sched_jobs.specs.Shows.{AreFree, IsIn}
 use Rattle.sched_jobs.specs.Inner.Put.{HasKey, HasPut}
 use Rattle.sched_jobs.proofs.SlotLemmas.{generation_else, place_else}
@@ -58,8 +58,8 @@ run_has (suc m) s u from below = elim (cases_eq u s) [
   | inr other ↦ inr (run_has m (s + 1) u (omega (arith, from, other)) (omega (arith, below)))
 ]
 
-pub all_unused : (n u : ℕ) → u < n → slot_in (replicate n (record { generation = 0; place = Absent })) u ≡ record { generation = 0; place = Absent }
-all_unused n u within = get_or-replicate n u (record { generation = 0; place = Absent }) (record { generation = 0; place = Absent }) within
+pub all_unused : (n u : ℕ) → u < n → slot_in (replicate n unused) u ≡ unused
+all_unused n u within = get_or-replicate n u unused unused within
 
 pub run_free : (slots : List Slot) (nodes : List NodeData) (m s : ℕ) → s + m ≡ length slots
     → ((u : ℕ) → place_in slots u ≡ Absent) → ((u : ℕ) → generation_in slots u ≡ 0) → ((u : ℕ) → key_of nodes u ≡ 0)

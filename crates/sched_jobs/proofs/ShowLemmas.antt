@@ -13,7 +13,7 @@ use Rattle.sched_law.proofs.SetLemmas.{absent_waits, set_else, set_here, wait_is
 use Rattle.sched_jobs.specs.declared.lines.TheConstants.{CLASSES}
 use Rattle.sched_jobs.specs.declared.slots.Slot.{Slot}
 use Rattle.sched_jobs.specs.declared.line_table.LineTable.{LineTable}
-use Rattle.sched_jobs.specs.Slots.{line_of, next_after, place_in, rank_of, slot_in}
+use Rattle.sched_jobs.specs.Slots.{line_of, next_after, place_by, place_in, rank_of, slot_in, unused}
 use Rattle.sched_jobs.specs.Lines.{HasLines, MayJoin, rank_in, slots_of}
 use Rattle.sched_jobs.specs.Shows.{AreFree, ShowsSlots, ShowsWaiting}
 use Rattle.sched_jobs.specs.Inner.Put.{HasPut}
@@ -67,7 +67,7 @@ may_join f next first slots lines at slot k waiting absent = record {
 }
 
 -- no job waits at first
-pub initial_waiting : (slots : List Slot) (lines : LineTable) (n : ℕ) → slots ≡ replicate n (record { generation = 0; place = Absent }) → length slots ≡ n
+pub initial_waiting : (slots : List Slot) (lines : LineTable) (n : ℕ) → slots ≡ replicate n unused → length slots ≡ n
     → slots_of lines ≡ n → HasLines lines (λ u. None) → ShowsWaiting slots lines
 initial_waiting slots lines n are len count shown = record {
   shown = shown_alike lines.nodes.items lines.queues.items lines.used.items (λ u. None) (λ u. line_of (place_in slots u)) shown (λ u. ap line_of (absent u));
@@ -78,9 +78,9 @@ initial_waiting slots lines n are len count shown = record {
 }
   where
     absent : (u : ℕ) → place_in slots u ≡ Absent
-    absent u = ap (λ (s : Slot). s.place) (elim (cases_lt u (length slots)) [
+    absent u = ap (λ (s : Slot). place_by s s.phase) (elim (cases_lt u (length slots)) [
       | inl within ↦ ap (λ (xs : List Slot). slot_in xs u) are ∙ all_unused n u (omega (arith, within, len))
-      | inr past ↦ get_or_past slots u (record { generation = 0; place = Absent }) past
+      | inr past ↦ get_or_past slots u unused past
     ])
 
 -- what the queues say of a waiting job

@@ -5,14 +5,57 @@ use Rattle.sched_law.specs.declared.job.TheConstants.{NEVER}
 use Rattle.sched_law.specs.declared.job.Place.{Place}
 use Rattle.sched_law.specs.declared.job.Place.TheVariants.{Absent, Waiting, Running}
 use Rattle.sched_jobs.specs.declared.slots.Slot.{Slot}
+use Rattle.sched_jobs.specs.declared.slots.Phase.{Phase}
+use Rattle.sched_jobs.specs.declared.slots.Phase.TheVariants.{Free, Queued, Started}
+
+-- A slot before its first use.
+abbrev pub unused : Slot
+unused = record {
+  generation = 0;
+  job = record { payload = 0; processors = 0; dim = 0; class = 0; estimate = 0 };
+  first = 0;
+  end = 0;
+  block_dim = 0;
+  phase = Free;
+}
+
+-- Where the job of a slot is, by its phase.
+abbrev pub place_by : Slot → Phase → Place
+place_by slot Free = Absent
+place_by slot Queued = Waiting (record { job = slot.job; passed = slot.first })
+place_by slot Started = Running (record {
+  job = slot.job;
+  block = record { base = slot.first; dim = slot.block_dim };
+  end = slot.end;
+})
+
+-- A slot with a job at a place.
+abbrev pub slot_for : ℕ → Place → Slot
+slot_for generation Absent = record unused { generation = generation }
+slot_for generation (Waiting wait) = record {
+  generation = generation;
+  job = wait.job;
+  first = wait.passed;
+  end = 0;
+  block_dim = 0;
+  phase = Queued;
+}
+slot_for generation (Running run) = record {
+  generation = generation;
+  job = run.job;
+  first = run.block.base;
+  end = run.end;
+  block_dim = run.block.dim;
+  phase = Started;
+}
 
 -- A slot. Past the end of a table there are only free ones.
 abbrev pub slot_in : List Slot → ℕ → Slot
-slot_in slots u = slice_index_or slots u (record { generation = 0; place = Absent })
+slot_in slots u = slice_index_or slots u unused
 
 -- Where the job of a slot is.
 abbrev pub place_in : List Slot → ℕ → Place
-place_in slots u = (slot_in slots u).place
+place_in slots u = place_by (slot_in slots u) (slot_in slots u).phase
 
 -- How many jobs a slot has had.
 abbrev pub generation_in : List Slot → ℕ → ℕ

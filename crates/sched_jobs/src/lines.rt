@@ -14,7 +14,7 @@ use wait_queue::{
 };
 
 /// The number of classes. The class of a job is below it.
-pub const CLASSES: u32 = 8;
+pub const CLASSES: u8 = 8;
 
 /// The number of dimensions of blocks.
 pub(crate) const DIMS: usize = MAX_BITMAP_DIM as usize + 1;

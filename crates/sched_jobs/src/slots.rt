@@ -3,31 +3,111 @@
 ghost use Rattle.std.specs.Prelude.{◌≡◌, ◌≢◌, ℕ, ◌+◌, ◌<◌, ◌≤◌, IfSome, IfNone, IsFalse, IsTrue, length};
 ghost use Rattle.sched_law.specs.declared.job.Place.{Place as PlaceData};
 ghost use Rattle.sched_law.specs.declared.job.Place.TheVariants.{Absent};
-ghost use Rattle.sched_jobs.specs.Slots.{IsPresent, generation_in, place_in};
+ghost use Rattle.sched_jobs.specs.Slots.{IsPresent, generation_in, place_by, place_in, slot_for};
 ghost use Rattle.sched_jobs.specs.Counts.{HasNoneIn, IsNextIn};
 ghost use Rattle.sched_jobs.specs.Inner.Put.{HasPut};
 
-use sched_law::Place;
-use wait_queue::MAX_SLOTS;
+use cube_shape::Region;
+use sched_law::{Place, SchedJob, SchedRun, SchedWait};
+use wait_queue::{MAX_SLOTS, QueueNode};
 
 /// The most jobs that a slot may have.
 pub const MAX_GENERATION: u64 = (1 << 40) - 1;
 
-/// A slot of a table.
+/// What a slot's job does.
+#[derive(Clone, Copy)]
+pub(crate) enum Phase {
+    /// There is no job.
+    Free,
+    /// It waits.
+    Queued,
+    /// It runs.
+    Started,
+}
+
+/// A slot of a table. It has the parts of a `Place`, which takes more bytes.
 #[derive(Clone, Copy)]
 pub struct Slot {
     /// How many jobs it has had.
     pub(crate) generation: u64,
-    /// Where its job is.
-    pub(crate) place: Place,
+    pub(crate) job: SchedJob,
+    /// How much has passed a waiting job, or the base of a running job's block.
+    pub(crate) first: u64,
+    /// The estimated end of a running job.
+    pub(crate) end: u64,
+    /// The dimension of a running job's block.
+    pub(crate) block_dim: u32,
+    pub(crate) phase: Phase,
 }
+
+// All vectors together have at most this many bytes for a job.
+const _: () = prove!(size_of::<Slot>() + size_of::<QueueNode>() <= 96);
 
 impl Slot {
     /// A slot before its first use.
     pub const UNUSED: Slot = Slot {
         generation: 0,
-        place: Place::Absent,
+        job: SchedJob {
+            payload: 0,
+            processors: 0,
+            dim: 0,
+            class: 0,
+            estimate: 0,
+        },
+        first: 0,
+        end: 0,
+        block_dim: 0,
+        phase: Phase::Free,
     };
+}
+
+// Returns where the job of a slot is.
+fn place_in_slot(slot: &Slot) -> Place
+    ensures { result ≡ place_by slot.now slot.now.phase }
+{
+    match slot.phase {
+        Phase::Free => Place::Absent,
+        Phase::Queued => Place::Waiting(SchedWait {
+            job: slot.job,
+            passed: slot.first,
+        }),
+        Phase::Started => Place::Running(SchedRun {
+            job: slot.job,
+            block: Region {
+                base: slot.first,
+                dim: slot.block_dim,
+            },
+            end: slot.end,
+        }),
+    }
+}
+
+// Returns a slot with a job at a place.
+fn slot_of(generation: u64, place: Place) -> Slot
+    ensures { result ≡ slot_for generation place }
+{
+    match place {
+        Place::Absent => Slot {
+            generation,
+            ..Slot::UNUSED
+        },
+        Place::Waiting(wait) => Slot {
+            generation,
+            job: wait.job,
+            first: wait.passed,
+            end: 0,
+            block_dim: 0,
+            phase: Phase::Queued,
+        },
+        Place::Running(run) => Slot {
+            generation,
+            job: run.job,
+            first: run.block.base,
+            end: run.end,
+            block_dim: run.block.dim,
+            phase: Phase::Started,
+        },
+    }
 }
 
 /// Returns where the job of a slot is.
@@ -35,7 +115,7 @@ pub(crate) fn place_at(slots: &[Slot], slot: u32) -> Place
     requires { slot < length slots.now }
     ensures { result ≡ place_in slots.now slot }
 {
-    slots[slot as usize].place
+    place_in_slot(&slots[slot as usize])
 }
 
 /// Returns whether a slot has a job.
@@ -78,7 +158,7 @@ fn put_in(slots: &mut [Slot], slot: u32, generation: u64, place: Place)
     requires { slot < length slots.old }
     ensures { HasPut slots.old slots.new slot generation place }
 {
-    slots[slot as usize] = Slot { generation, place };
+    slots[slot as usize] = slot_of(generation, place);
 }
 
 /// Writes a slot.

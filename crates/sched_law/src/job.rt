@@ -13,9 +13,9 @@ pub struct SchedJob {
     /// How many processors it uses, from 1 on.
     pub processors: u32,
     /// The dimension of the block that it needs: the least one with as many processors.
-    pub dim: u32,
+    pub dim: u8,
     /// Its class. Jobs of a lower class come first.
-    pub class: u32,
+    pub class: u8,
     /// How long it runs at most, from 1 on, or 0 if that is not known.
     pub estimate: u64,
 }

@@ -4,12 +4,12 @@ use Rattle.sched_law.specs.declared.job.Place.{Place}
 use Rattle.wait_queue.specs.declared.nodes.QueueNode.{QueueNode as NodeData}
 use Rattle.wait_queue.specs.Nodes.{key_of}
 use Rattle.sched_jobs.specs.declared.slots.Slot.{Slot}
-use Rattle.sched_jobs.specs.Slots.{slot_in}
+use Rattle.sched_jobs.specs.Slots.{slot_for, slot_in}
 
 -- One slot has these parts, and the others are as they were.
 pub record HasPut (old new : List Slot) (at generation : ℕ) (place : Place) : Type 0 where
   pub len : length new ≡ length old
-  pub here : slot_in new at ≡ record { generation = generation; place = place }
+  pub here : slot_in new at ≡ slot_for generation place
   pub others : (u : ℕ) → u ≢ at → slot_in new u ≡ slot_in old u
 
 -- One slot has this key, and the others have the keys that they had.
