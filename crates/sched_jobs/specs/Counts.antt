@@ -27,9 +27,10 @@ pub record IsNextIn (slots : List Slot) (from slot : ℕ) : Type 0 where
 abbrev pub HasNoneIn : List Slot → ℕ → Type 0
 HasNoneIn slots from = (u : ℕ) → from ≤ u → IsPresent (place_in slots u) → ⊥
 
--- The same of a table.
+-- Of the slots of a table from one on, this is the first with a job that is not over.
 abbrev pub IsNextUsed : Jobs → ℕ → ℕ → Type 0
 IsNextUsed jobs from slot = IsNextIn jobs.slots.items from slot
 
+-- No slot of a table from one on has a job that is not over.
 abbrev pub HasNoneUsed : Jobs → ℕ → Type 0
 HasNoneUsed jobs from = HasNoneIn jobs.slots.items from

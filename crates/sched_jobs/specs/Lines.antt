@@ -52,8 +52,8 @@ HasNoneOf line class = (dim u : ℕ) → dim ≤ MAX_BITMAP_DIM → line u ≡ S
 abbrev pub flag_in : List Bool → ℕ → Bool
 flag_in used class = slice_index_or used class false
 
--- There is a queue for each class and dimension, which has the slots of its line. A class whose flag
--- is not set has none.
+-- There is a queue for each class and dimension, which has the slots of its line. A class whose
+-- flag is not set has none.
 pub record ShowsLines (nodes : List NodeData) (queues : List QueueData) (used : List Bool) (line : ℕ → Option ℕ) : Type 0 where
   pub lines : AreLines nodes queues line
   pub queues_count : length queues ≡ CLASSES * (MAX_BITMAP_DIM + 1)

@@ -69,8 +69,8 @@ AreFree slots nodes first (u ∷ rest) =
     × (generation_in slots u < MAX_GENERATION) × (IsIn u rest → ⊥)
     × AreFree slots nodes (next_after u (key_of nodes u)) rest
 
--- Each job that is not over has one slot, with its place, and its number is the key. All other slots
--- are free or retired.
+-- Each job that is not over has one slot, with its place, and its number is the key. All other
+-- slots are free or retired.
 pub record ShowsSlots (place : ℕ → Place) (next first : ℕ) (slots : List Slot) (nodes : List NodeData) : Type 0 where
   pub limit : length slots ≤ MAX_SLOTS
   pub generations : (u : ℕ) → generation_in slots u ≤ MAX_GENERATION

@@ -21,8 +21,8 @@ fn count_in(nodes: &[QueueNode], queue: &Queue, bound: Option<u64>) -> u32
     count_before(nodes, queue, key)
 }
 
-/// Returns the number of slots with a key below the bound, if there is one, in the lines from
-/// `first` on, up to `end`, which is left out.
+/// Returns the number of slots in the lines from `first` on, up to `end`, which is left out. If
+/// there is a bound, only keys below it count.
 pub(crate) fn total(
     nodes: &[QueueNode],
     queues: &[Queue],

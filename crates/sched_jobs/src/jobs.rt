@@ -145,8 +145,8 @@ impl Jobs {
         self.lines.count(0, LINES, None)
     }
 
-    /// Returns how many waiting jobs come before the waiting job of a slot: those of a lower class,
-    /// and those of its class with a lesser number.
+    /// Returns how many waiting jobs come before that of a slot. They are of a lower class, or of
+    /// its class with a lesser number.
     pub fn count_before(&self, slot: u32) -> u64
         requires inside { slot < capacity_of self.now }
         requires job { (wait : WaitData) × (place_of self.now slot ≡ Waiting wait) }
@@ -160,10 +160,8 @@ impl Jobs {
         };
         let first = wait.job.class as usize * DIMS;
         let lower = self.lines.count(0, first, None);
-        lower
-            + self
-                .lines
-                .count(first, first + DIMS, Some(self.lines.key(slot)))
+        let number = self.lines.key(slot);
+        lower + self.lines.count(first, first + DIMS, Some(number))
     }
 
     /// Returns the first slot from one on that has a job.
@@ -272,7 +270,8 @@ impl Jobs {
     {
         let generation = generation_at(&self.slots, slot);
         put(&mut self.slots, slot, generation, Place::Absent);
-        if generation >= MAX_GENERATION {
+        let is_last = generation >= MAX_GENERATION;
+        if is_last {
             return;
         }
         self.lines.set_key(slot, self.free as u64 + 1);

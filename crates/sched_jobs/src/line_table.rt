@@ -102,8 +102,8 @@ impl LineTable {
         first_of_all(&self.nodes, &self.queues, &self.used, wanted)
     }
 
-    /// Returns the number of slots with a key below the bound, if there is one, in the lines from
-    /// `first` on, up to `end`, which is left out.
+    /// Returns the number of slots in the lines from `first` on, up to `end`, which is left out. If
+    /// there is a bound, only keys below it count.
     pub(crate) fn count(&self, first: usize, end: usize, bound: Option<u64>) -> u64
         requires first { first ≤ end }
         requires end { end ≤ LINES }

@@ -117,7 +117,7 @@ fn first_of_class(
     best
 }
 
-// Returns the same. It passes over a class without waiting jobs.
+// Returns the same. It skips a class without waiting jobs.
 fn first_if_used(
     nodes: &[QueueNode],
     queues: &[Queue],

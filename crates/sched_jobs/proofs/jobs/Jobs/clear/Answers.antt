@@ -6,12 +6,12 @@ use Rattle.sched_jobs.specs.Slots.{generation_in}
 use Rattle.sched_jobs.proofs.ChangeLemmas.{clear_shows, retire_shows}
 use Rattle.sched_jobs.proofs.jobs.Jobs.clear.Goals as goal
 
-pub returns-then-generation-ge-MAX_GENERATION-clause-slots :
-    goal.returns-then-generation-ge-MAX_GENERATION-clause-slots
-returns-then-generation-ge-MAX_GENERATION-clause-slots c = λ place k.
+pub returns-then-is_last-clause-slots :
+    goal.returns-then-is_last-clause-slots
+returns-then-is_last-clause-slots c = λ place k.
     let counted : c.generation_at-generation.result ≡ generation_in c.args.self.now.slots.items c.args.slot =
     c.generation_at-generation.ensures ∙ ap (λ (xs : List Slot). generation_in xs c.args.slot) c.deref.ensures.value in
-    let last : MAX_GENERATION ≤ c.generation_at-generation.result = omega (arith, c.if-generation-ge-MAX_GENERATION.true) in
+    let last : MAX_GENERATION ≤ c.generation_at-generation.result = omega (arith, c.if-is_last.true) in
     retire_shows place c.args.self.now.next c.args.self.now.free c.args.self.now.slots.items c.put.new.slots.items c.args.self.now.lines.nodes.items c.args.slot c.generation_at-generation.result
     k c.requires.job counted last c.put.ensures
 
@@ -19,6 +19,6 @@ pub returns-clause-slots : goal.returns-clause-slots
 returns-clause-slots c = λ place k.
     let counted : c.generation_at-generation.result ≡ generation_in c.args.self.now.slots.items c.args.slot =
     c.generation_at-generation.ensures ∙ ap (λ (xs : List Slot). generation_in xs c.args.slot) c.deref.ensures.value in
-    let fewer : c.generation_at-generation.result < MAX_GENERATION = omega (arith, c.if-generation-ge-MAX_GENERATION.false) in
+    let fewer : c.generation_at-generation.result < MAX_GENERATION = omega (arith, c.if-is_last.false) in
     clear_shows place c.args.self.now.next c.args.self.now.free c.args.self.now.slots.items c.put.new.slots.items c.args.self.now.lines.nodes.items c.set_key.new.self.nodes.items c.args.slot
     c.generation_at-generation.result k c.requires.inside c.requires.job counted fewer c.put.ensures (record { here = c.set_key.ensures.key; others = c.set_key.ensures.keys })

@@ -23,4 +23,4 @@ returns c = λ w wait shows waits.
     subst (λ (x : SchedWait). IsCount (WaitsBefore w (arrival_of c.args.self.now c.args.slot) x.job) w.next (c.count-lower.result + c.count.result)) one
     (before_counted w c.args.self.now shows c.args.slot c.in-Waiting.wait mine c.count-lower.result c.count.result (c.count-lower.result + c.count.result) refl lows
     (subst (λ (k : ℕ). IsCount (HasKeyFrom c.args.self.now.lines.nodes.items (λ u. line_of (place_in c.args.self.now.slots.items u)) (c.in-Waiting.wait.job.class * (MAX_BITMAP_DIM + 1))
-    (c.in-Waiting.wait.job.class * (MAX_BITMAP_DIM + 1) + (MAX_BITMAP_DIM + 1)) (Some k)) c.args.self.now.next c.count.result) c.key.ensures owns))
+    (c.in-Waiting.wait.job.class * (MAX_BITMAP_DIM + 1) + (MAX_BITMAP_DIM + 1)) (Some k)) c.args.self.now.next c.count.result) c.key-number.ensures owns))
