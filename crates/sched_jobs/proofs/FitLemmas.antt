@@ -8,7 +8,8 @@ use Rattle.wait_queue.specs.Nodes.{estimate_of, key_of}
 use Rattle.sched_jobs.specs.declared.lines.TheConstants.{CLASSES}
 use Rattle.sched_jobs.specs.declared.search.Wanted.{Wanted}
 use Rattle.sched_jobs.specs.Slots.{line_at}
-use Rattle.sched_jobs.specs.Lines.{AreLines, IsFirstIn, IsFirstWithin, ShowsLines, flag_in}
+use Rattle.sched_jobs.specs.Lines.{AreLines, ShowsLines, flag_in}
+use Rattle.sched_jobs.specs.Inner.Joins.{IsFirstIn, IsFirstWithin}
 use Rattle.sched_jobs.specs.Inner.Search.{IsChosen, IsFit, IsFitBelow, IsFitIn, IsLeast, IsOlder}
 
 -- what has a property has another one

@@ -5,7 +5,8 @@ use Rattle.wait_queue.specs.declared.queues.Queue.{Queue as QueueData}
 use Rattle.wait_queue.specs.Nodes.{estimate_of}
 use Rattle.wait_queue.specs.Lists.{Has, IsRising, first_slot}
 use Rattle.wait_queue.specs.Queues.{HasNoneWithin, IsOldestWithin}
-use Rattle.sched_jobs.specs.Lines.{IsFirstIn, IsFirstWithin, IsLine}
+use Rattle.sched_jobs.specs.Lines.{IsLine}
+use Rattle.sched_jobs.specs.Inner.Joins.{IsFirstIn, IsFirstWithin}
 
 first_by : (nodes : List NodeData) (line : ℕ → Option ℕ) (at : ℕ) (xs : List ℕ) (answer : Option ℕ) → answer ≡ first_slot xs → IsRising nodes xs
     → ((u : ℕ) → Has xs u → line u ≡ Some at) → ((u : ℕ) → line u ≡ Some at → Has xs u) → IfSome answer (IsFirstIn nodes line at)

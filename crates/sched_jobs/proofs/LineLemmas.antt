@@ -11,7 +11,8 @@ use Rattle.wait_queue.specs.Queues.{CanAppend, HasItem, IsQueue}
 use Rattle.wait_queue.proofs.ListLemmas.{has_cases, has_left, has_right}
 use Rattle.sched_law.specs.State.{set}
 use Rattle.sched_law.proofs.SetLemmas.{none_is_some, same, set_else, set_here}
-use Rattle.sched_jobs.specs.Lines.{AreLines, CanJoin, IsLine, queue_in}
+use Rattle.sched_jobs.specs.Lines.{AreLines, IsLine, queue_in}
+use Rattle.sched_jobs.specs.Inner.Joins.{CanJoin}
 
 -- a list is parted at one of its slots
 pub parted : (xs : List ℕ) (slot : ℕ) → Has xs slot → (before : List ℕ) × (after : List ℕ) × (xs ≡ before ++ slot ∷ after)

@@ -14,7 +14,8 @@ use Rattle.sched_jobs.specs.declared.lines.TheConstants.{CLASSES}
 use Rattle.sched_jobs.specs.declared.slots.Slot.{Slot}
 use Rattle.sched_jobs.specs.declared.line_table.LineTable.{LineTable}
 use Rattle.sched_jobs.specs.Slots.{line_of, next_after, place_by, place_in, rank_of, slot_in, unused}
-use Rattle.sched_jobs.specs.Lines.{HasLines, MayJoin, rank_in, slots_of}
+use Rattle.sched_jobs.specs.Lines.{HasLines, rank_in, slots_of}
+use Rattle.sched_jobs.specs.Inner.Joins.{MayJoin}
 use Rattle.sched_jobs.specs.Shows.{AreFree, ShowsSlots, ShowsWaiting}
 use Rattle.sched_jobs.specs.Inner.Put.{HasPut}
 use Rattle.sched_jobs.proofs.SlotLemmas.{in_line_present, place_else, place_here}

@@ -8,8 +8,8 @@ use Rattle.sched_law.specs.declared.job.Place.TheVariants.{Absent, Waiting, Runn
 use Rattle.sched_law.specs.declared.job.SchedWait.{SchedWait}
 use Rattle.sched_law.proofs.SetLemmas.{none_is_some, same}
 use Rattle.sched_jobs.specs.declared.slots.Slot.{Slot}
-use Rattle.sched_jobs.specs.Slots.{IsPresent, generation_in, line_at, line_of, place_by, place_in, slot_for, unused}
-use Rattle.sched_jobs.specs.Inner.Put.{HasPut}
+use Rattle.sched_jobs.specs.Slots.{IsPresent, generation_in, line_at, line_of, place_by, place_in, unused}
+use Rattle.sched_jobs.specs.Inner.Put.{HasPut, slot_for}
 
 -- a place is that of a job or not
 pub absent_or_present : (p : Place) → (p ≡ Absent) ⊎ IsPresent p

@@ -7,7 +7,8 @@ use Rattle.wait_queue.specs.Nodes.{key_of}
 use Rattle.sched_law.specs.State.{set}
 use Rattle.sched_jobs.specs.declared.line_table.LineTable.{LineTable}
 use Rattle.sched_jobs.specs.Slots.{line_at}
-use Rattle.sched_jobs.specs.Lines.{AreLines, CanJoin, HasLines, HasNoneOf, MayJoin, ShowsLines, flag_in}
+use Rattle.sched_jobs.specs.Lines.{AreLines, HasLines, HasNoneOf, ShowsLines, flag_in}
+use Rattle.sched_jobs.specs.Inner.Joins.{CanJoin, MayJoin}
 use Rattle.sched_jobs.proofs.SlotLemmas.{written}
 use Rattle.sched_jobs.proofs.AlikeLemmas.{shown_joined, shown_left}
 

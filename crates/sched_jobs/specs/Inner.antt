@@ -1,3 +1,4 @@
 pub mod Put
 pub mod Search
 pub mod Numbers
+pub mod Joins

@@ -1,5 +1,5 @@
 -- Queues of waiting slots.
-use Rattle.std.specs.Prelude.{◌≡◌, ◌≢◌, ℕ, ◌+◌, ◌*◌, ◌<◌, ◌≤◌, Bool, false, List, Option, Some, None, length, slice_index_or}
+use Rattle.std.specs.Prelude.{◌≡◌, ℕ, ◌+◌, ◌*◌, ◌<◌, ◌≤◌, Bool, false, List, Option, Some, length, slice_index_or}
 use Rattle.cube_shape.specs.declared.limits.TheConstants.{MAX_BITMAP_DIM}
 use Rattle.wait_queue.specs.declared.nodes.TheConstants.{MAX_SLOTS}
 use Rattle.wait_queue.specs.declared.nodes.QueueNode.{QueueNode as NodeData}
@@ -26,23 +26,6 @@ pub record IsLine (nodes : List NodeData) (queues : List QueueData) (line : ℕ 
 pub record AreLines (nodes : List NodeData) (queues : List QueueData) (line : ℕ → Option ℕ) : Type 0 where
   pub limit : length nodes ≤ MAX_SLOTS
   pub each : (q : ℕ) → q < length queues → IsLine nodes queues line q
-
--- A slot in no line may join one, with a key above all keys there.
-pub record CanJoin (nodes : List NodeData) (queues : List QueueData) (line : ℕ → Option ℕ) (at slot key : ℕ) : Type 0 where
-  pub lines : AreLines nodes queues line
-  pub free : line slot ≡ None
-  pub above : (u : ℕ) → line u ≡ Some at → key_of nodes u < key
-
--- A slot of a line has a lesser key than all others there.
-pub record IsFirstIn (nodes : List NodeData) (line : ℕ → Option ℕ) (at slot : ℕ) : Type 0 where
-  pub one_of : line slot ≡ Some at
-  pub first : (u : ℕ) → line u ≡ Some at → u ≢ slot → key_of nodes slot < key_of nodes u
-
--- A slot of a line has the least key among those with an estimate of at most a limit.
-pub record IsFirstWithin (nodes : List NodeData) (line : ℕ → Option ℕ) (at limit slot : ℕ) : Type 0 where
-  pub one_of : line slot ≡ Some at
-  pub within : estimate_of nodes slot ≤ limit
-  pub first : (u : ℕ) → line u ≡ Some at → key_of nodes u < key_of nodes slot → limit < estimate_of nodes u
 
 -- No slot is in a line of the class.
 abbrev pub HasNoneOf : (ℕ → Option ℕ) → ℕ → Type 0
@@ -75,9 +58,3 @@ rank_in lines u = estimate_of lines.nodes.items u
 -- The number of slots.
 abbrev pub slots_of : LineTable → ℕ
 slots_of lines = length lines.nodes.items
-
--- A slot in no line may join one, with a key above all keys there.
-pub record MayJoin (lines : LineTable) (line : ℕ → Option ℕ) (at slot key : ℕ) : Type 0 where
-  pub shown : HasLines lines line
-  pub free : line slot ≡ None
-  pub above : (u : ℕ) → line u ≡ Some at → key_in lines u < key

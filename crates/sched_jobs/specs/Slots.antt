@@ -29,26 +29,6 @@ place_by slot Started = Running (record {
   end = slot.end;
 })
 
--- A slot with a job at a place.
-abbrev pub slot_for : ℕ → Place → Slot
-slot_for generation Absent = record unused { generation = generation }
-slot_for generation (Waiting wait) = record {
-  generation = generation;
-  job = wait.job;
-  first = wait.passed;
-  end = 0;
-  block_dim = 0;
-  phase = Queued;
-}
-slot_for generation (Running run) = record {
-  generation = generation;
-  job = run.job;
-  first = run.block.base;
-  end = run.end;
-  block_dim = run.block.dim;
-  phase = Started;
-}
-
 -- A slot. Past the end of a table there are only free ones.
 abbrev pub slot_in : List Slot → ℕ → Slot
 slot_in slots u = slice_index_or slots u unused

@@ -220,6 +220,7 @@ impl Jobs {
         ensures capacity { capacity_of self.new ≡ capacity_of self.old }
         ensures next { self.new.next ≡ self.old.next }
         ensures generations { HasGenerations self.old self.new }
+        ensures place { place_of self.new slot ≡ Absent }
         ensures others { HasOthers self.old self.new slot }
         ensures shows { (w : Sched) → ShowsJobs w self.old
             → ShowsJobs (cancel (arrival_of self.old slot) w) self.new }
@@ -239,6 +240,7 @@ impl Jobs {
         ensures capacity { capacity_of self.new ≡ capacity_of self.old }
         ensures next { self.new.next ≡ self.old.next }
         ensures generations { HasGenerations self.old self.new }
+        ensures place { place_of self.new slot ≡ Absent }
         ensures others { HasOthers self.old self.new slot }
         ensures shows { (w : Sched) → ShowsJobs w self.old
             → ShowsJobs (finish (arrival_of self.old slot) w) self.new }

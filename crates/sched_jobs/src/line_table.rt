@@ -3,7 +3,8 @@
 ghost use Rattle.std.specs.Prelude.{◌≡◌, ◌≢◌, ℕ, ◌+◌, ◌*◌, ◌^◌, ◌<◌, ◌≤◌, Bool, Option, Some, None, IfOk, length};
 ghost use Rattle.sched_law.specs.State.{set};
 ghost use Rattle.sched_jobs.specs.Slots.{line_at, next_after, rank_of};
-ghost use Rattle.sched_jobs.specs.Lines.{HasLines, MayJoin, flag_in, key_in, rank_in, slots_of};
+ghost use Rattle.sched_jobs.specs.Lines.{HasLines, flag_in, key_in, rank_in, slots_of};
+ghost use Rattle.sched_jobs.specs.Inner.Joins.{MayJoin};
 ghost use Rattle.region_bits.specs.Count.{IsCount};
 ghost use Rattle.sched_jobs.specs.Inner.Numbers.{HasKeyFrom, HasNumbers};
 ghost use Rattle.sched_jobs.specs.Inner.Search.{IsChosen};

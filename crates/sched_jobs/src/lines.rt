@@ -6,7 +6,8 @@ ghost use Rattle.wait_queue.specs.declared.queues.Queue.{Queue as QueueData};
 ghost use Rattle.wait_queue.specs.Nodes.{estimate_of, key_of};
 ghost use Rattle.sched_law.specs.State.{set};
 ghost use Rattle.sched_jobs.specs.Slots.{line_at};
-ghost use Rattle.sched_jobs.specs.Lines.{AreLines, CanJoin, HasNoneOf, IsFirstIn, IsFirstWithin};
+ghost use Rattle.sched_jobs.specs.Lines.{AreLines, HasNoneOf};
+ghost use Rattle.sched_jobs.specs.Inner.Joins.{CanJoin, IsFirstIn, IsFirstWithin};
 
 use cube_shape::MAX_BITMAP_DIM;
 use wait_queue::{

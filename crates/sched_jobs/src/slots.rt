@@ -3,9 +3,9 @@
 ghost use Rattle.std.specs.Prelude.{◌≡◌, ◌≢◌, ℕ, ◌+◌, ◌<◌, ◌≤◌, IfSome, IfNone, IsFalse, IsTrue, length};
 ghost use Rattle.sched_law.specs.declared.job.Place.{Place as PlaceData};
 ghost use Rattle.sched_law.specs.declared.job.Place.TheVariants.{Absent};
-ghost use Rattle.sched_jobs.specs.Slots.{IsPresent, generation_in, place_by, place_in, slot_for};
+ghost use Rattle.sched_jobs.specs.Slots.{IsPresent, generation_in, place_by, place_in};
+ghost use Rattle.sched_jobs.specs.Inner.Put.{HasPut, slot_for};
 ghost use Rattle.sched_jobs.specs.Counts.{HasNoneIn, IsNextIn};
-ghost use Rattle.sched_jobs.specs.Inner.Put.{HasPut};
 
 use cube_shape::Region;
 use sched_law::{Place, SchedJob, SchedRun, SchedWait};

@@ -1,10 +1,32 @@
 -- A write of one slot, and a change of its key.
 use Rattle.std.specs.Prelude.{◌≡◌, ◌≢◌, ℕ, List, length}
 use Rattle.sched_law.specs.declared.job.Place.{Place}
+use Rattle.sched_law.specs.declared.job.Place.TheVariants.{Absent, Waiting, Running}
 use Rattle.wait_queue.specs.declared.nodes.QueueNode.{QueueNode as NodeData}
 use Rattle.wait_queue.specs.Nodes.{key_of}
 use Rattle.sched_jobs.specs.declared.slots.Slot.{Slot}
-use Rattle.sched_jobs.specs.Slots.{slot_for, slot_in}
+use Rattle.sched_jobs.specs.declared.slots.Phase.TheVariants.{Queued, Started}
+use Rattle.sched_jobs.specs.Slots.{slot_in, unused}
+
+-- A slot with a job at a place.
+abbrev pub slot_for : ℕ → Place → Slot
+slot_for generation Absent = record unused { generation = generation }
+slot_for generation (Waiting wait) = record {
+  generation = generation;
+  job = wait.job;
+  first = wait.passed;
+  end = 0;
+  block_dim = 0;
+  phase = Queued;
+}
+slot_for generation (Running run) = record {
+  generation = generation;
+  job = run.job;
+  first = run.block.base;
+  end = run.end;
+  block_dim = run.block.dim;
+  phase = Started;
+}
 
 -- One slot has these parts, and the others are as they were.
 pub record HasPut (old new : List Slot) (at generation : ℕ) (place : Place) : Type 0 where

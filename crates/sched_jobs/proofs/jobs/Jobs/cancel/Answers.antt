@@ -1,11 +1,12 @@
 -- A waiting job leaves its line, and then its slot.
-use Rattle.std.proofs.Common.{◌≡◌, ℕ, List, None, sym, ◌∙◌, subst, ap}
+use Rattle.std.proofs.Common.{◌≡◌, ℕ, List, None, refl, sym, ◌∙◌, subst, ap}
 use Rattle.sched_law.specs.declared.job.Place.TheVariants.{Absent, Waiting}
 use Rattle.sched_law.specs.State.{set}
 use Rattle.sched_law.proofs.SetLemmas.{absent_waits, set_here}
 use Rattle.sched_jobs.specs.declared.slots.Slot.{Slot}
 use Rattle.sched_jobs.specs.Slots.{generation_in, line_of, place_in}
 use Rattle.sched_jobs.specs.Shows.{ShowsSlots}
+use Rattle.sched_jobs.proofs.SlotLemmas.{place_here}
 use Rattle.sched_jobs.proofs.ShowLemmas.{slots_alike, waiting_changed}
 use Rattle.sched_jobs.proofs.jobs.Jobs.cancel.Goals as goal
 
@@ -29,3 +30,7 @@ returns-clause-shows c = λ w shows.
           (c.clear.ensures.lines (set (λ u. line_of (place_in c.args.self.now.slots.items u)) c.args.slot None) left (set_here (λ u. line_of (place_in c.args.self.now.slots.items u)) c.args.slot None))
           (λ u other. c.clear.ensures.ranks u ∙ c.leave.ensures.ranks u) (λ wait is. absurd (absent_waits is)),
     )
+
+pub returns-clause-place : goal.returns-clause-place
+returns-clause-place c =
+    place_here c.args.self.now.slots.items c.clear.new.self.slots.items c.args.slot (generation_in c.args.self.now.slots.items c.args.slot) Absent c.clear.ensures.put c.args.slot refl

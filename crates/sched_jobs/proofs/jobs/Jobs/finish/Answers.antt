@@ -1,8 +1,9 @@
 -- A running job is present, and in no line.
-use Rattle.std.proofs.Common.{None, sym, ◌∙◌, subst, ap}
+use Rattle.std.proofs.Common.{None, refl, sym, ◌∙◌, subst, ap}
 use Rattle.sched_law.specs.declared.job.Place.TheVariants.{Absent}
 use Rattle.sched_law.proofs.SetLemmas.{absent_waits}
 use Rattle.sched_jobs.specs.Slots.{IsPresent, generation_in, line_of, place_in}
+use Rattle.sched_jobs.proofs.SlotLemmas.{place_here}
 use Rattle.sched_jobs.proofs.ShowLemmas.{set_same, waiting_changed}
 use Rattle.sched_jobs.proofs.jobs.Jobs.finish.Goals as goal
 
@@ -20,3 +21,7 @@ returns-clause-shows c = λ w shows.
           (c.clear.ensures.lines (λ u. line_of (place_in c.args.self.now.slots.items u)) shows.2.shown none) none)
           (λ u other. c.clear.ensures.ranks u) (λ wait is. absurd (absent_waits is)),
     )
+
+pub returns-clause-place : goal.returns-clause-place
+returns-clause-place c =
+    place_here c.args.self.now.slots.items c.clear.new.self.slots.items c.args.slot (generation_in c.args.self.now.slots.items c.args.slot) Absent c.clear.ensures.put c.args.slot refl
