@@ -1,0 +1,5 @@
+pub mod JobLemmas
+pub mod KeptLemmas
+pub mod CoreLemmas
+pub mod ChoiceLemmas
+pub mod PickLemmas

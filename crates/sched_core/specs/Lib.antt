@@ -1,0 +1,12 @@
+pub mod Shows
+pub mod Answers
+pub mod Inner
+pub use Rattle.cube_shape.specs.Region.{IsAligned}
+pub use Rattle.cube_shape.specs.Falling.{IsHeld}
+pub use Rattle.region_bits.specs.Count.{IsCount}
+pub use Rattle.sched_law.specs.State.{Sched, IsVacant, Runs, Waits, end_after, held, set}
+pub use Rattle.sched_law.specs.State.{at, cancel, finish, initial, occupy, pass, reserve, start}
+pub use Rattle.sched_law.specs.State.{submit, vacate}
+pub use Rattle.sched_law.specs.Policy.{Decides, HasNone, IsHead, IsLatest, Prepares}
+pub use Rattle.sched_law.specs.Law.{IsSound}
+pub use Rattle.sched_jobs.specs.Counts.{DoesWait, WaitsBefore}
