@@ -81,6 +81,7 @@ UNCALLED = {
     "job_events": "the program does not call it yet", "sched_law": "no scheduler decides by it yet",
     "block_trees": "no scheduler calls it yet", "wait_queue": "no scheduler calls it yet",
     "sched_blocks": "no scheduler calls it yet", "sched_jobs": "no scheduler calls it yet",
+    "sched_core": "no program calls it yet",
     "ghost_history": "it has no code that runs", "ghost_log": "its calls do nothing at run time"}
 OPENING = re.compile(r"\A(//.*\n)+\n?")
 BLOCK = re.compile(r"((?<=```rust\n)|(?<=```antt\n)|(?<=```c\n)).*?(?=```\n)", re.DOTALL)
