@@ -72,15 +72,17 @@ QUOTES = {
     "messages_csv": ("tool_commands/src/messages_command.rt#pub fn messages<",),
     "tool_args": ("tool_commands/src/check_command.rt#pub fn check<",),
     "tool_commands": ("jobs_cli/src/main.rt#fn tool",),
+    "block_trees": ("sched_blocks/src/nodes.rt#pub(crate) fn note_use",),
+    "wait_queue": ("sched_jobs/src/lines.rt#pub(crate) fn join_line",),
+    "sched_blocks": ("sched_core/src/start.rt#fn launch",),
+    "sched_jobs": ("sched_core/src/choice.rt#fn passing_any",),
     "wake_pool": ("wake_calls/src/steps.rt#pub fn rise<",),
     "wake_calls": ("wake_table/src/tests.rt#fn sleeps", "wake_table/src/tests.rt#fn wakes"),
     "wake_table": ("wake_table/src/tests.rt#fn a_sleeper_is_woken_for_a_job",),
 }
 # A library that nobody calls, and why.
 UNCALLED = {
-    "job_events": "the program does not call it yet", "sched_law": "no scheduler decides by it yet",
-    "block_trees": "no scheduler calls it yet", "wait_queue": "no scheduler calls it yet",
-    "sched_blocks": "no scheduler calls it yet", "sched_jobs": "no scheduler calls it yet",
+    "job_events": "the program does not call it yet", "sched_law": "its functions are laws, which proofs cite",
     "sched_core": "no program calls it yet",
     "ghost_history": "it has no code that runs", "ghost_log": "its calls do nothing at run time"}
 OPENING = re.compile(r"\A(//.*\n)+\n?")
