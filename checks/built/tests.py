@@ -28,6 +28,14 @@ def is_listed(name, listed):
     must(name in listed, f"{USES} has no line for it")
 
 
+def copy_tests(name, room):
+    """Copies the sources of a crate of tests to a room with crates, and returns its folder."""
+    home, crate = path(FOLDER, name), f"{room}/crates/{name}"
+    for file in files_below(f"{FOLDER}/{name}", ENDING):
+        write(f"{crate}/{os.path.relpath(file, home).removesuffix('.in')}", read(file))
+    return crate
+
+
 def run_tests(name, line):
     """Runs the tests of a crate in a copy of the crates, whose sources are laid out. Returns how many passed."""
     if not shutil.which("rt"):
@@ -36,9 +44,7 @@ def run_tests(name, line):
         shutil.copytree(path("crates"), f"{room}/crates", ignore=shutil.ignore_patterns("out", "proofs"))
         shutil.copy(path("HANDLES"), room)
         write(f"{room}/crates.txt", f"{read('crates.txt')}{line}\n")
-        home, crate = path(FOLDER, name), f"{room}/crates/{name}"
-        for file in files_below(f"{FOLDER}/{name}", ENDING):
-            write(f"{crate}/{os.path.relpath(file, home).removesuffix('.in')}", read(file))
+        crate = copy_tests(name, room)
         status, out, _ = answer(["rt", "fmt"], "", cwd=crate, timeout=60, text=True)
         must(status == 0 and not out, f"rt fmt lays it out in another way: {out[:300]}")
         words = ["rt", "try", "--test", "--seconds", TEST_SECONDS]

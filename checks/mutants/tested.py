@@ -1,7 +1,7 @@
 """Tries mutants that no contract refuses: the prover must accept each, and the test that it names must fail.
 
 They change hints of `bitmap_tree`: marks, spares, and the word at which a search begins. Each is a file of
-`checks/mutants/tested`, written as those of `mutants`, and its line `seen by:` names a test of `tests_bitmap`. They are
+`checks/mutants/tested`, written as those of `mutants`, and its line `seen by:` names a test of `tests/bitmap`. They are
 tried on a copy of these crates, one after the other. Without a mutant all tests must pass.
 
     checks/run tested [--stale] [NAME..]
@@ -12,12 +12,13 @@ import re
 import shutil
 import tempfile
 
+from checks.built.tests import ENDING, FOLDER, copy_tests, lines
 from checks.lib.repository import files_below, path, read, write
 from checks.lib.rows import Row, answer, must, run_rows
 from checks.mutants.mutant import Edit, texts_of
 
-CRATE, TESTS = "bitmap_tree", "tests_bitmap"
-COPIED = ("cube_shape", "ghost_history", "region_bits", "bitmap_occupancy", CRATE, TESTS)
+CRATE, TESTS = "bitmap_tree", "bitmap"
+COPIED = ("cube_shape", "ghost_history", "region_bits", "bitmap_occupancy", "fit_tree", "tests_bitmap", CRATE)
 SECONDS = 3600
 # The most seconds that a test may take: with a wrong hint it may search for long.
 TEST_SECONDS = "120"
@@ -31,15 +32,16 @@ def is_current(edit):
     """Sees that a mutant can be applied, and that the test that it names is there."""
     must(not edit.why, edit.why)
     test = rf"^#\[test\]\n(?:#.*\n)*fn {seen_by(edit)}\("
-    must(any(re.search(test, read(file), re.M) for file in files_below(f"crates/{TESTS}/src")), "there is no such test")
+    must(any(re.search(test, read(file), re.M) for file in files_below(f"{FOLDER}/{TESTS}", ENDING)), "there is no such test")
 
 
 def copy_crates(room):
-    lines = [line for line in read("crates.txt").splitlines() if re.match(rf"({'|'.join(COPIED)})\b[^:]*:", line)]
-    write(f"{room}/crates.txt", "\n".join([*lines, ""]))
+    used = [line for line in read("crates.txt").splitlines() if re.match(rf"({'|'.join(COPIED)})\b[^:]*:", line)]
+    write(f"{room}/crates.txt", "\n".join([*used, lines()[TESTS], ""]))
     shutil.copy(path("HANDLES"), room)
     for name in COPIED:
-        shutil.copytree(path("crates", name), f"{room}/crates/{name}")
+        shutil.copytree(path("crates", name), f"{room}/crates/{name}", ignore=shutil.ignore_patterns("out"))
+    copy_tests(TESTS, room)
 
 
 def run_tests(room):

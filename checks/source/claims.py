@@ -28,8 +28,8 @@ PAGES = ("README.md", "docs/C.md", "docs/RUST.md", "docs/LANES.md", "docs/REGION
 PROMISES = re.compile(r"\b(?:proved|proves|never|each|at most)\b", re.I)
 PLAIN = ("a duty", "a description")
 # Where tests are: files whose text or name has the function or the file of a test.
-TESTS = ("checks", "rust/tests", "rust/pool/tests", "tests/layers", "tests/shops", "crates/tests_bitmap",
-         "crates/tests_lanes", "crates/tests_region_shop", "crates/tests_files", "crates/tests_tools", "python")
+TESTS = ("checks", "rust/tests", "rust/pool/tests", "tests", "crates/tests_bitmap",
+         "crates/tests_lanes", "crates/tests_files", "crates/tests_tools", "python")
 
 
 def sentences(file, text):

@@ -1,10 +1,10 @@
-//! Tests of the allocator over a tree of bitmaps (`bitmap_tree`): worked out by hand, beside a
-//! model, and with many threads. The crowd of threads is public, so that a program can run it.
-//! Tests of the tree of rooms (`fit_tree`) beside a model.
+//! What tests of the allocator over a tree of bitmaps (`bitmap_tree`) share, and one of them. The
+//! crowd of threads is public, so that a program can run it.
 #![tactic(auto)]
 
 mod backfill;
 mod crowd_lane;
+mod held;
 mod kept;
 mod owners;
 #[cfg(test)]
@@ -13,5 +13,7 @@ mod trial;
 
 pub use backfill::take_apart;
 pub use crowd_lane::{CROWD_DIM, CrowdLane, run_lanes};
+pub use held::{block, expect_fresh, expect_none, in_use, named, opened, taken};
+pub use kept::{release_all, take_out};
 pub use owners::Owners;
 pub use trial::{Outcome, is_fresh, run_trial};

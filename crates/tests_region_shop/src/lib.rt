@@ -1,12 +1,8 @@
-//! Tests of the dispatcher in which a worker takes its next job with its block (`region_shop`).
-//!
-//! They are worked out by hand, over streams of jobs, and over workers that lie down.
+//! What tests of the dispatcher `region_shop` share: streams of jobs, and the roles of threads.
 #![tactic(auto)]
 
 mod roles;
 mod stage;
-#[cfg(test)]
-mod tests;
 
 pub use roles::{Crowd, JOBS, PRODUCERS, Role, live};
 pub use stage::{Post, Stage, WIDE, round};

@@ -1,7 +1,0 @@
-use denote.Param.Send.{sendable}
-use Rattle.region_shop.proofs.SharedLemmas.{shop_field_sync}
-use Rattle.tests_region_shop.proofs.tests.crowd.Shared.TheSendSync as shared
-use Rattle.tests_region_shop.proofs.tests.crowd.run_all.Goals as goal
-
-pub for_each_mut-requires-sync-F : goal.for_each_mut-requires-sync-F
-for_each_mut-requires-sync-F g c κs within = search (sendable, shop_field_sync, shared.the_field_sync) depth 30
