@@ -3,3 +3,4 @@ pub mod KeptLemmas
 pub mod CoreLemmas
 pub mod ChoiceLemmas
 pub mod PickLemmas
+pub mod HeldLemmas

@@ -8,6 +8,7 @@
 mod assigned;
 mod choice;
 mod forecast;
+mod kept;
 mod law;
 mod scheduler;
 mod small;
@@ -15,6 +16,7 @@ mod start;
 
 pub use assigned::{Assigned, Forecast};
 pub use cube_shape::{MAX_BITMAP_DIM, Region};
+pub use kept::Scheduler;
 pub use law::announced_jobs_start;
 pub use sched_jobs::{CLASSES, MAX_GENERATION, MAX_SLOTS, tickets_differ};
 pub use sched_law::{NEVER, Place, SchedJob, SchedRun, SchedWait};
