@@ -4,7 +4,6 @@
 
 mod backfill;
 mod crowd_lane;
-mod held;
 mod kept;
 mod owners;
 #[cfg(test)]
@@ -13,7 +12,6 @@ mod trial;
 
 pub use backfill::take_apart;
 pub use crowd_lane::{CROWD_DIM, CrowdLane, run_lanes};
-pub use held::{block, expect_fresh, expect_none, in_use, named, opened, taken};
 pub use kept::{release_all, take_out};
 pub use owners::Owners;
 pub use trial::{Outcome, is_fresh, run_trial};

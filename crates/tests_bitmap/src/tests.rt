@@ -1,1 +1,2 @@
 mod crowd;
+mod held;

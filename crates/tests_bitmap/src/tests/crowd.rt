@@ -2,7 +2,7 @@
 ghost use Rattle.std.specs.Prelude.{◌≡◌, ◌≤◌};
 ghost use Rattle.bitmap_tree.specs.Handles.{dim_of, permits_of};
 
-use crate::held::{expect_fresh, opened, taken};
+use super::held::{expect_fresh, opened, taken};
 use bitmap_tree::{BitmapTree, Region};
 use std::process::Abort;
 use std::sync::atomic::AtomicU64;
