@@ -26,7 +26,7 @@ impl Core {
     }
 
     /// Returns what is known of when and where the job of a slot runs.
-    pub fn forecast(&self, slot: u32) -> Forecast
+    pub(crate) fn forecast(&self, slot: u32) -> Forecast
         requires shows { (w : Sched) × ShowsCore w self.now }
         requires inside { slot < slots_of self.now }
         ensures { (w : Sched) → ShowsCore w self.now

@@ -20,4 +20,3 @@ pub use kept::Scheduler;
 pub use law::announced_jobs_start;
 pub use sched_jobs::{CLASSES, MAX_GENERATION, MAX_SLOTS, tickets_differ};
 pub use sched_law::{NEVER, Place, SchedJob, SchedRun, SchedWait};
-pub use scheduler::Core;

@@ -26,7 +26,7 @@ use std::alloc::{AllocError, Global};
 ///
 /// Only `new` allocates memory.
 #[derive(Drop)]
-pub struct Core {
+pub(crate) struct Core {
     pub(crate) blocks: Blocks,
     pub(crate) jobs: Jobs,
     pub(crate) reserved: Option<Assigned>,
@@ -37,7 +37,12 @@ pub struct Core {
 impl Core {
     /// Creates a scheduler of a machine of dimension `dim`, for this many jobs, without a job. If
     /// `patience` times the machine has passed the head, a block is reserved for it in any case.
-    pub fn new(alloc: Global, dim: u32, capacity: usize, patience: u32) -> Result<Self, AllocError>
+    pub(crate) fn new(
+        alloc: Global,
+        dim: u32,
+        capacity: usize,
+        patience: u32,
+    ) -> Result<Self, AllocError>
         requires dim { dim ≤ MAX_BITMAP_DIM }
         requires capacity { capacity ≤ MAX_SLOTS }
         ensures slots { IfOk result (λ made. slots_of made ≡ capacity) }
@@ -55,7 +60,7 @@ impl Core {
     }
 
     /// Returns the dimension of the machine.
-    pub fn dim(&self) -> u32
+    pub(crate) fn dim(&self) -> u32
         ensures dim { result ≡ dim_of self.now }
         ensures shown { (w : Sched) → ShowsCore w self.now → result ≡ w.dim }
         ensures limit { result ≤ MAX_BITMAP_DIM }
@@ -64,7 +69,7 @@ impl Core {
     }
 
     /// Returns the time of the last decision.
-    pub fn now(&self) -> u64
+    pub(crate) fn now(&self) -> u64
         ensures time { result ≡ time_of self.now }
         ensures shown { (w : Sched) → ShowsCore w self.now → result ≡ w.now }
     {
@@ -73,21 +78,21 @@ impl Core {
 
     /// Returns how many times the machine passes a job before a block without a known promise is
     /// reserved for it.
-    pub fn patience(&self) -> u32
+    pub(crate) fn patience(&self) -> u32
         ensures { (w : Sched) → ShowsCore w self.now → result ≡ w.patience }
     {
         self.patience
     }
 
     /// Returns how many jobs there may be that are not over.
-    pub fn capacity(&self) -> usize
+    pub(crate) fn capacity(&self) -> usize
         ensures { result ≡ slots_of self.now }
     {
         self.jobs.capacity()
     }
 
     /// Returns how many jobs were submitted, which is the number of the next one.
-    pub fn submitted(&self) -> u64
+    pub(crate) fn submitted(&self) -> u64
         ensures submitted { result ≡ submitted_of self.now }
         ensures shown { (w : Sched) → ShowsCore w self.now → result ≡ w.next }
     {
@@ -95,7 +100,7 @@ impl Core {
     }
 
     /// Returns where the job of a slot is.
-    pub fn place(&self, slot: u32) -> Place
+    pub(crate) fn place(&self, slot: u32) -> Place
         requires { slot < slots_of self.now }
         ensures { result ≡ job_place self.now slot }
     {
@@ -103,7 +108,7 @@ impl Core {
     }
 
     /// Returns the number of a slot's job.
-    pub fn arrival(&self, slot: u32) -> u64
+    pub(crate) fn arrival(&self, slot: u32) -> u64
         requires shows { (w : Sched) × ShowsCore w self.now }
         requires inside { slot < slots_of self.now }
         ensures { result ≡ job_arrival self.now slot }
@@ -112,7 +117,7 @@ impl Core {
     }
 
     /// Returns a name for a slot's job, which no other job ever has. It is not 0.
-    pub fn ticket(&self, slot: u32) -> u64
+    pub(crate) fn ticket(&self, slot: u32) -> u64
         requires shows { (w : Sched) × ShowsCore w self.now }
         requires inside { slot < slots_of self.now }
         ensures ticket { result ≡ job_ticket self.now slot }
@@ -122,7 +127,7 @@ impl Core {
     }
 
     /// Returns the slot of the job with a ticket, if it is not over.
-    pub fn find(&self, ticket: u64) -> Option<u32>
+    pub(crate) fn find(&self, ticket: u64) -> Option<u32>
         requires { (w : Sched) × ShowsCore w self.now }
         ensures found { IfSome result (λ slot. slot < slots_of self.now
             × IsTaken self.now slot × (ticket ≡ job_ticket self.now slot)) }
@@ -133,7 +138,7 @@ impl Core {
     }
 
     /// Returns the first slot from one on that has a job.
-    pub fn next_used(&self, from: u32) -> Option<u32>
+    pub(crate) fn next_used(&self, from: u32) -> Option<u32>
         requires { (w : Sched) × ShowsCore w self.now }
         ensures found { IfSome result (IsNextTaken self.now from) }
         ensures none { IfNone result (HasNoneTaken self.now from) }
@@ -142,7 +147,7 @@ impl Core {
     }
 
     /// Returns how many jobs wait.
-    pub fn waiting(&self) -> u64
+    pub(crate) fn waiting(&self) -> u64
         requires { (w : Sched) × ShowsCore w self.now }
         ensures { (w : Sched) → ShowsCore w self.now → IsCount (DoesWait w) w.next result }
     {
@@ -151,7 +156,7 @@ impl Core {
 
     /// Returns how many waiting jobs come before the waiting job of a slot. They are of a lower
     /// class, or of its class with a lesser number.
-    pub fn count_before(&self, slot: u32) -> u64
+    pub(crate) fn count_before(&self, slot: u32) -> u64
         requires shows { (w : Sched) × ShowsCore w self.now }
         requires inside { slot < slots_of self.now }
         requires job { (wait : WaitData) × (job_place self.now slot ≡ Waiting wait) }
@@ -163,7 +168,7 @@ impl Core {
     }
 
     /// Returns how many processors jobs hold.
-    pub fn held(&self) -> u32
+    pub(crate) fn held(&self) -> u32
         ensures { (w : Sched) → ShowsCore w self.now
             → IsCount (IsHeld (held w)) (2 ^ w.dim) result }
     {
@@ -171,7 +176,7 @@ impl Core {
     }
 
     /// Returns how many processors are out of service.
-    pub fn occupied(&self) -> u32
+    pub(crate) fn occupied(&self) -> u32
         ensures { (w : Sched) → ShowsCore w self.now
             → IsCount (IsHeld w.occupied) (2 ^ w.dim) result }
     {
@@ -179,7 +184,7 @@ impl Core {
     }
 
     /// Returns the largest dimension of a vacant block, or `None` if no processor is vacant.
-    pub fn largest_vacant(&self) -> Option<u32>
+    pub(crate) fn largest_vacant(&self) -> Option<u32>
         ensures dim { IfSome result (λ l. l ≤ dim_of self.now) }
         ensures largest { (w : Sched) → ShowsCore w self.now → IfSome result (λ l. (k : ℕ)
             → k ≤ w.dim → HasNone w.dim k (IsVacant w) ↔ (l < k)) }
@@ -191,7 +196,7 @@ impl Core {
 
     /// Adds a waiting job, and returns its slot. Returns `None` only if each slot has a job or has
     /// had as many as it may have; then nothing changes.
-    pub fn submit(&mut self, job: SchedJob) -> Option<u32>
+    pub(crate) fn submit(&mut self, job: SchedJob) -> Option<u32>
         requires shows { (w : Sched) × ShowsCore w self.old }
         requires sound { IsSound (dim_of self.old) job }
         requires class { job.class < CLASSES }
@@ -219,7 +224,7 @@ impl Core {
     }
 
     /// Removes a waiting job. A block that was reserved for it is so no more.
-    pub fn cancel(&mut self, slot: u32)
+    pub(crate) fn cancel(&mut self, slot: u32)
         requires shows { (w : Sched) × ShowsCore w self.old }
         requires inside { slot < slots_of self.old }
         requires job { (wait : WaitData) × (job_place self.old slot ≡ Waiting wait) }
@@ -235,7 +240,7 @@ impl Core {
     }
 
     /// Removes a running job, whose block is vacant then.
-    pub fn finish(&mut self, slot: u32)
+    pub(crate) fn finish(&mut self, slot: u32)
         requires shows { (w : Sched) × ShowsCore w self.old }
         requires inside { slot < slots_of self.old }
         requires job { (run : RunData) × (job_place self.old slot ≡ Running run) }
@@ -255,7 +260,7 @@ impl Core {
 
     /// Takes a block out of service. A reservation of a part of it ends. Returns false only if a
     /// part of the block is in use; then nothing changes.
-    pub fn occupy(&mut self, region: Region) -> bool
+    pub(crate) fn occupy(&mut self, region: Region) -> bool
         requires shows { (w : Sched) × ShowsCore w self.old }
         requires block { IsAligned (dim_of self.old) region }
         ensures vacant { (w : Sched) → ShowsCore w self.old
@@ -275,7 +280,7 @@ impl Core {
 
     /// Puts a block back into service. Returns false only if it is not out of service as one block;
     /// then nothing changes.
-    pub fn vacate(&mut self, region: Region) -> bool
+    pub(crate) fn vacate(&mut self, region: Region) -> bool
         requires shows { (w : Sched) × ShowsCore w self.old }
         ensures out { (w : Sched) → ShowsCore w self.old
             → IsTrue result ↔ (w.occupied region.base ≡ Some region) }

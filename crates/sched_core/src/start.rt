@@ -158,7 +158,7 @@ impl Core {
     /// may start; then a block may have been reserved. A state has only one decision, as
     /// `sched_law::decisions_are_one` says, so the clause `decides` fixes the job and the state.
     /// What `sched_law` says of promises is said of times that never go back.
-    pub fn next(&mut self, now: u64) -> Option<u32>
+    pub(crate) fn next(&mut self, now: u64) -> Option<u32>
         requires { (w : Sched) × ShowsCore w self.old }
         ensures slots { slots_of self.new ≡ slots_of self.old }
         ensures inside { IfSome result (λ slot. slot < slots_of self.new) }
@@ -179,7 +179,7 @@ impl Core {
 
     /// Returns the job that `next` would start at this time, and its block. It starts nothing, but
     /// a block may be reserved as `next` would reserve it.
-    pub fn peek(&mut self, now: u64) -> Option<Assigned>
+    pub(crate) fn peek(&mut self, now: u64) -> Option<Assigned>
         requires { (w : Sched) × ShowsCore w self.old }
         ensures jobs { HasSameJobs self.old self.new }
         ensures inside { IfSome result (λ it. it.slot < slots_of self.new) }
