@@ -4,3 +4,4 @@ pub mod CoreLemmas
 pub mod ChoiceLemmas
 pub mod PickLemmas
 pub mod HeldLemmas
+pub mod BeforeLemmas

@@ -1,12 +1,15 @@
 -- What a scheduler answers, in terms of its state.
-use Rattle.std.specs.Prelude.{◌≡◌, ℕ, ◌⊎◌, Option, Some, None, IfSome}
+use Rattle.std.specs.Prelude.{◌≡◌, ◌≢◌, ℕ, ◌⊎◌, Option, Some, None, IfSome}
 use Rattle.cube_shape.specs.declared.region.Region.{Region}
 use Rattle.sched_law.specs.declared.job.Place.{Place}
 use Rattle.sched_law.specs.declared.job.Place.TheVariants.{Absent, Waiting, Running}
+use Rattle.sched_law.specs.declared.job.Reservation.{Reservation}
+use Rattle.sched_law.specs.declared.job.SchedJob.{SchedJob}
 use Rattle.sched_law.specs.declared.job.SchedWait.{SchedWait}
 use Rattle.sched_law.specs.declared.job.SchedRun.{SchedRun}
 use Rattle.sched_law.specs.State.{Sched, Runs}
 use Rattle.sched_law.specs.Policy.{Decides, IsBlocked, IsLatest, Prepares}
+use Rattle.sched_jobs.specs.Counts.{WaitsBefore}
 use Rattle.sched_core.specs.declared.assigned.Assigned.{Assigned}
 use Rattle.sched_core.specs.declared.assigned.Forecast.{Forecast}
 use Rattle.sched_core.specs.declared.assigned.Forecast.TheVariants.{Nothing, Queued, Promised, Started}
@@ -44,6 +47,17 @@ IsWaitForecast w j answer =
     ((r : Region) × (t : ℕ) × (w.reserved ≡ Some (record { job = j; block = r })) × IsLatest w r t
     × (answer ≡ Promised r t))
     ⊎ (((r : Region) → w.reserved ≡ Some (record { job = j; block = r }) → ⊥) × (answer ≡ Queued))
+
+-- Job `i` comes before the waiting job `j`: the reserved job comes before all others, and these come
+-- in order.
+abbrev pub ComesBeforeBy : Option Reservation → Sched → ℕ → SchedJob → ℕ → Type 0
+ComesBeforeBy None w j job i = WaitsBefore w j job i
+ComesBeforeBy (Some reserved) w j job i =
+    (reserved.job ≢ j) × ((i ≡ reserved.job) ⊎ WaitsBefore w j job i)
+
+-- The same, by the reservation of the state.
+abbrev pub ComesBefore : Sched → ℕ → SchedJob → ℕ → Type 0
+ComesBefore w j job i = ComesBeforeBy w.reserved w j job i
 
 -- The forecast of a job at a place. That of a running job is its block and estimated end.
 abbrev pub IsForecast : Sched → ℕ → Place → Forecast → Type 0

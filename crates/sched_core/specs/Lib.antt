@@ -9,4 +9,5 @@ pub use Rattle.sched_law.specs.State.{at, cancel, finish, initial, occupy, pass,
 pub use Rattle.sched_law.specs.State.{submit, vacate}
 pub use Rattle.sched_law.specs.Policy.{Decides, HasNone, IsHead, IsLatest, Prepares}
 pub use Rattle.sched_law.specs.Law.{IsSound}
-pub use Rattle.sched_jobs.specs.Counts.{DoesWait, WaitsBefore}
+pub use Rattle.sched_jobs.specs.Counts.{DoesRun, DoesWait, WaitsBefore}
+pub use Rattle.sched_jobs.specs.Sums.{asked}

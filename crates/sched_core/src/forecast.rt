@@ -1,12 +1,17 @@
-//! What is known of a job's start and end.
+//! What is known of a job's start and end, and which jobs come before it.
 
-ghost use Rattle.std.specs.Prelude.{◌≡◌, ℕ, ◌<◌};
+ghost use Rattle.std.specs.Prelude.{◌≡◌, ℕ, ◌<◌, IsTrue, IsFalse};
+ghost use Rattle.region_bits.specs.Count.{IsCount};
+ghost use Rattle.sched_law.specs.declared.job.Place.TheVariants.{Waiting};
+ghost use Rattle.sched_law.specs.declared.job.SchedWait.{SchedWait as WaitData};
 ghost use Rattle.sched_law.specs.State.{Sched};
+ghost use Rattle.sched_law.specs.Policy.{Precedes};
 ghost use Rattle.sched_core.specs.Shows.{IsTaken, ShowsCore, job_arrival, job_place, slots_of};
-ghost use Rattle.sched_core.specs.Answers.{IsForecast, IsWaitForecast};
+ghost use Rattle.sched_core.specs.Answers.{ComesBefore, IsForecast, IsWaitForecast};
 
 use crate::assigned::Forecast;
 use crate::scheduler::Core;
+use crate::small::precedes;
 use sched_law::Place;
 
 impl Core {
@@ -40,5 +45,52 @@ impl Core {
             return Forecast::Nothing;
         };
         self.promise(slot)
+    }
+
+    // Returns whether the waiting job of a slot comes before that of another slot in order.
+    fn is_before(&self, first: u32, second: u32) -> bool
+        requires shows { (w : Sched) × ShowsCore w self.now }
+        requires first { first < slots_of self.now }
+        requires second { second < slots_of self.now }
+        ensures yes { (one other : WaitData) → job_place self.now first ≡ Waiting one
+            → job_place self.now second ≡ Waiting other → IsTrue result
+            → Precedes (job_arrival self.now first) one.job (job_arrival self.now second)
+            other.job }
+        ensures no { (one other : WaitData) → job_place self.now first ≡ Waiting one
+            → job_place self.now second ≡ Waiting other → IsFalse result
+            → Precedes (job_arrival self.now first) one.job (job_arrival self.now second)
+            other.job → ⊥ }
+    {
+        let Place::Waiting(one) = self.jobs.place(first) else {
+            return false;
+        };
+        let Place::Waiting(other) = self.jobs.place(second) else {
+            return false;
+        };
+        let number = self.jobs.arrival(first);
+        precedes(&one.job, number, &other.job, self.jobs.arrival(second))
+    }
+
+    /// Returns how many waiting jobs come before the waiting job of a slot. The reserved job comes
+    /// before all others.
+    pub(crate) fn before(&self, slot: u32) -> u64
+        requires shows { (w : Sched) × ShowsCore w self.now }
+        requires inside { slot < slots_of self.now }
+        requires job { (wait : WaitData) × (job_place self.now slot ≡ Waiting wait) }
+        ensures { (w : Sched) (wait : WaitData) → ShowsCore w self.now
+            → job_place self.now slot ≡ Waiting wait
+            → IsCount (ComesBefore w (job_arrival self.now slot) wait.job) w.next result }
+    {
+        let before = self.jobs.count_before(slot);
+        let Some(kept) = self.reserved else {
+            return before;
+        };
+        if kept.slot == slot {
+            return 0;
+        }
+        if self.is_before(kept.slot, slot) {
+            return before;
+        }
+        before + 1
     }
 }

@@ -11,9 +11,10 @@ ghost use Rattle.sched_law.specs.declared.job.SchedRun.{SchedRun as RunData};
 ghost use Rattle.sched_law.specs.State.{Sched, IsVacant, at, cancel, finish, held, initial, occupy, submit, vacate};
 ghost use Rattle.sched_law.specs.Policy.{Decides, HasNone};
 ghost use Rattle.sched_law.specs.Law.{IsSound};
-ghost use Rattle.sched_jobs.specs.Counts.{DoesWait, WaitsBefore};
+ghost use Rattle.sched_jobs.specs.Counts.{DoesRun, DoesWait, WaitsBefore};
+ghost use Rattle.sched_jobs.specs.Sums.{asked};
 ghost use Rattle.sched_core.specs.Shows.{HasNoneTaken, HasSameJobs, IsNextTaken, IsSpent, IsTaken, KeepsGenerations, KeepsOthers, KeepsSlots, ShowsCore, dim_of, job_arrival, job_generation, job_place, job_ticket, slots_of, submitted_of, time_of};
-ghost use Rattle.sched_core.specs.Answers.{IsAnnounced, IsForecast, answer_of};
+ghost use Rattle.sched_core.specs.Answers.{ComesBefore, IsAnnounced, IsForecast, answer_of};
 
 use crate::assigned::{Assigned, Forecast};
 use crate::scheduler::Core;
@@ -148,6 +149,20 @@ impl Scheduler {
         self.core.waiting()
     }
 
+    /// Returns how many jobs run.
+    pub fn running(&self) -> u64
+        ensures { (w : Sched) → ShowsCore w self.now → IsCount (DoesRun w) w.next result }
+    {
+        self.core.running()
+    }
+
+    /// Returns how many processors the running jobs use together. Their blocks may have more.
+    pub fn asked(&self) -> u64
+        ensures { (w : Sched) → ShowsCore w self.now → result ≡ asked w }
+    {
+        self.core.asked()
+    }
+
     /// Returns how many waiting jobs come before the waiting job of a slot. They are of a lower
     /// class, or of its class with a lesser number.
     pub fn count_before(&self, slot: u32) -> u64
@@ -158,6 +173,18 @@ impl Scheduler {
             → IsCount (WaitsBefore w (job_arrival self.now slot) wait.job) w.next result }
     {
         self.core.count_before(slot)
+    }
+
+    /// Returns how many waiting jobs come before the waiting job of a slot. The reserved job comes
+    /// before all others. The others come in order.
+    pub fn before(&self, slot: u32) -> u64
+        requires inside { slot < slots_of self.now }
+        requires job { (wait : WaitData) × (job_place self.now slot ≡ Waiting wait) }
+        ensures { (w : Sched) (wait : WaitData) → ShowsCore w self.now
+            → job_place self.now slot ≡ Waiting wait
+            → IsCount (ComesBefore w (job_arrival self.now slot) wait.job) w.next result }
+    {
+        self.core.before(slot)
     }
 
     /// Returns how many processors jobs hold.

@@ -11,7 +11,8 @@ ghost use Rattle.sched_law.specs.declared.job.SchedRun.{SchedRun as RunData};
 ghost use Rattle.sched_law.specs.State.{Sched, IsVacant, cancel, finish, held, initial, occupy, submit, vacate};
 ghost use Rattle.sched_law.specs.Policy.{HasNone};
 ghost use Rattle.sched_law.specs.Law.{IsSound};
-ghost use Rattle.sched_jobs.specs.Counts.{DoesWait, WaitsBefore};
+ghost use Rattle.sched_jobs.specs.Counts.{DoesRun, DoesWait, WaitsBefore};
+ghost use Rattle.sched_jobs.specs.Sums.{asked};
 ghost use Rattle.sched_core.specs.Shows.{HasNoneTaken, HasSameJobs, IsNextTaken, IsSpent, IsTaken, KeepsGenerations, KeepsOthers, ShowsCore, dim_of, job_arrival, job_generation, job_place, job_ticket, slots_of, submitted_of, time_of};
 
 use crate::assigned::Assigned;
@@ -152,6 +153,20 @@ impl Core {
         ensures { (w : Sched) → ShowsCore w self.now → IsCount (DoesWait w) w.next result }
     {
         self.jobs.waiting()
+    }
+
+    /// Returns how many jobs run.
+    pub(crate) fn running(&self) -> u64
+        ensures { (w : Sched) → ShowsCore w self.now → IsCount (DoesRun w) w.next result }
+    {
+        self.jobs.running()
+    }
+
+    /// Returns how many processors the running jobs use together. Their blocks may have more.
+    pub(crate) fn asked(&self) -> u64
+        ensures { (w : Sched) → ShowsCore w self.now → result ≡ asked w }
+    {
+        self.jobs.asked()
     }
 
     /// Returns how many waiting jobs come before the waiting job of a slot. They are of a lower

@@ -4,11 +4,12 @@ ghost use Rattle.std.specs.Prelude.{◌≡◌, ℕ, ◌*◌, ◌^◌, ◌<◌, �
 ghost use Rattle.cube_shape.specs.Region.{IsAligned};
 ghost use Rattle.sched_law.specs.declared.job.TheConstants.{NEVER as LAST};
 ghost use Rattle.sched_law.specs.State.{end_after, overlaps};
+ghost use Rattle.sched_law.specs.Policy.{Precedes};
 ghost use Rattle.sched_core.specs.Inner.{kept_beside, kept_without};
 
 use crate::assigned::Assigned;
 use cube_shape::{MAX_BITMAP_DIM, Region};
-use sched_law::NEVER;
+use sched_law::{NEVER, SchedJob};
 
 /// Returns the estimated end of a job with this estimate that starts now.
 pub(crate) fn end_of(now: u64, estimate: u64) -> u64
@@ -54,6 +55,23 @@ pub(crate) fn without(kept: Option<Assigned>, slot: u32) -> Option<Assigned>
         return None;
     }
     kept
+}
+
+/// Returns whether job `i` comes before job `j` in order.
+pub(crate) fn precedes(first: &SchedJob, i: u64, second: &SchedJob, j: u64) -> bool
+    ensures yes { IsTrue result → Precedes i first.now j second.now }
+    ensures no { IsFalse result → Precedes i first.now j second.now → ⊥ }
+{
+    if first.class < second.class {
+        return true;
+    }
+    if first.class > second.class {
+        return false;
+    }
+    if i >= j {
+        return false;
+    }
+    true
 }
 
 // Returns whether two blocks have a processor in common.

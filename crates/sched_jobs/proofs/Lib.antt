@@ -10,3 +10,4 @@ pub mod NumberLemmas
 pub mod CountLemmas
 pub mod ChosenLemmas
 pub mod ShowLemmas
+pub mod SumLemmas

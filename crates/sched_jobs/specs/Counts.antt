@@ -1,8 +1,9 @@
--- Which waiting jobs are counted, and which slots are in use.
+-- Which jobs are counted, and which slots are in use.
 use Rattle.std.specs.Prelude.{ℕ, ◌<◌, ◌≤◌, List, length}
 use Rattle.sched_law.specs.declared.job.SchedJob.{SchedJob}
 use Rattle.sched_law.specs.declared.job.SchedWait.{SchedWait}
-use Rattle.sched_law.specs.State.{Sched, Waits}
+use Rattle.sched_law.specs.declared.job.SchedRun.{SchedRun}
+use Rattle.sched_law.specs.State.{Sched, Runs, Waits}
 use Rattle.sched_law.specs.Policy.{Precedes}
 use Rattle.sched_jobs.specs.declared.slots.Slot.{Slot}
 use Rattle.sched_jobs.specs.declared.jobs.Jobs.{Jobs}
@@ -11,6 +12,10 @@ use Rattle.sched_jobs.specs.Slots.{IsPresent, place_in}
 -- Job `i` waits.
 abbrev pub DoesWait : Sched → ℕ → Type 0
 DoesWait w i = (other : SchedWait) × Waits w i other
+
+-- Job `i` runs.
+abbrev pub DoesRun : Sched → ℕ → Type 0
+DoesRun w i = (run : SchedRun) × Runs w i run
 
 -- Job `i` waits, and comes before job `j`.
 abbrev pub WaitsBefore : Sched → ℕ → SchedJob → ℕ → Type 0

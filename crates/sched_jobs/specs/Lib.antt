@@ -1,5 +1,6 @@
 pub mod Slots
 pub mod Select
+pub mod Sums
 pub mod Shows
 pub mod Lines
 pub mod Counts

@@ -16,6 +16,7 @@ use Rattle.sched_jobs.specs.declared.line_table.LineTable.{LineTable}
 use Rattle.sched_jobs.specs.declared.jobs.Jobs.{Jobs}
 use Rattle.sched_jobs.specs.Lines.{HasLines, key_in, rank_in, slots_of}
 use Rattle.sched_jobs.specs.Select.{IsWanted}
+use Rattle.sched_jobs.specs.Sums.{ShowsRunning}
 use Rattle.sched_jobs.specs.Slots.{IsPresent, generation_in, line_of, next_after, place_in, rank_of}
 
 -- How many jobs a table may have.
@@ -102,6 +103,7 @@ ShowsJobs w jobs =
     (w.next ≡ jobs.next)
     × ShowsSlots w.place jobs.next jobs.free jobs.slots.items jobs.lines.nodes.items
     × ShowsWaiting jobs.slots.items jobs.lines
+    × ShowsRunning w.place jobs.next jobs.slots.items jobs.running jobs.asked
 
 -- A slot has a waiting job that is wanted, and no job that is wanted comes before it.
 pub record IsFirstWaiting (any most : Option ℕ) (limit : ℕ) (w : Sched) (jobs : Jobs) (slot : ℕ) : Type 0 where

@@ -8,7 +8,8 @@ ghost use Rattle.sched_law.specs.declared.job.SchedWait.{SchedWait as WaitData};
 ghost use Rattle.sched_law.specs.declared.job.SchedRun.{SchedRun as RunData};
 ghost use Rattle.sched_law.specs.State.{Sched, cancel, end_after, finish, initial, pass, set, start, submit};
 ghost use Rattle.region_bits.specs.Count.{IsCount};
-ghost use Rattle.sched_jobs.specs.Counts.{DoesWait, HasNoneUsed, IsNextUsed, WaitsBefore};
+ghost use Rattle.sched_jobs.specs.Counts.{DoesRun, DoesWait, HasNoneUsed, IsNextUsed, WaitsBefore};
+ghost use Rattle.sched_jobs.specs.Sums.{asked};
 ghost use Rattle.sched_jobs.specs.Lines.{HasLines, rank_in, slots_of};
 ghost use Rattle.sched_jobs.specs.Inner.Put.{HasPut};
 ghost use Rattle.sched_jobs.specs.Shows.{HasGenerations, HasJob, HasNoneWaiting, HasOthers, IsFirstWaiting, IsRetired, ShowsJobs, ShowsSlots, arrival_of, capacity_of, generation_of, place_of, ticket_of};
@@ -16,7 +17,9 @@ ghost use Rattle.sched_jobs.specs.Shows.{HasGenerations, HasJob, HasNoneWaiting,
 use crate::line_table::LineTable;
 use crate::lines::{CLASSES, DIMS, LINES};
 use crate::search::Wanted;
-use crate::slots::{MAX_GENERATION, Slot, generation_at, is_present, next_present, place_at, put};
+use crate::slots::{
+    MAX_GENERATION, Slot, generation_at, is_present, next_present, place_at, processors_of, put,
+};
 use cube_shape::{MAX_BITMAP_DIM, Region};
 use sched_law::{Place, SchedJob, SchedRun, SchedWait};
 use std::alloc::{AllocError, Global};
@@ -29,6 +32,10 @@ use wait_queue::MAX_SLOTS;
 pub struct Jobs {
     next: u64,
     free: u32,
+    /// How many jobs run.
+    running: u64,
+    /// How many processors the running jobs use.
+    asked: u64,
     slots: Vec<Slot>,
     lines: LineTable,
 }
@@ -46,6 +53,8 @@ impl Jobs {
         Ok(Jobs {
             next: 0,
             free: 0,
+            running: 0,
+            asked: 0,
             slots,
             lines,
         })
@@ -145,15 +154,30 @@ impl Jobs {
         self.lines.count(0, LINES, None)
     }
 
+    /// Returns how many jobs run.
+    pub fn running(&self) -> u64
+        ensures { (w : Sched) → ShowsJobs w self.now → IsCount (DoesRun w) w.next result }
+    {
+        self.running
+    }
+
+    /// Returns how many processors the running jobs use together. Their blocks may have more.
+    pub fn asked(&self) -> u64
+        ensures { (w : Sched) → ShowsJobs w self.now → result ≡ asked w }
+    {
+        self.asked
+    }
+
     /// Returns how many waiting jobs come before that of a slot. They are of a lower class, or of
     /// its class with a lesser number.
     pub fn count_before(&self, slot: u32) -> u64
         requires inside { slot < capacity_of self.now }
         requires job { (wait : WaitData) × (place_of self.now slot ≡ Waiting wait) }
         requires shows { (w : Sched) × ShowsJobs w self.now }
-        ensures { (w : Sched) (wait : WaitData) → ShowsJobs w self.now
+        ensures count { (w : Sched) (wait : WaitData) → ShowsJobs w self.now
             → place_of self.now slot ≡ Waiting wait
             → IsCount (WaitsBefore w (arrival_of self.now slot) wait.job) w.next result }
+        ensures few { result < LAST }
     {
         let Place::Waiting(wait) = place_at(&self.slots, slot) else {
             return 0;
@@ -245,6 +269,11 @@ impl Jobs {
         ensures shows { (w : Sched) → ShowsJobs w self.old
             → ShowsJobs (finish (arrival_of self.old slot) w) self.new }
     {
+        let Place::Running(ended) = place_at(&self.slots, slot) else {
+            return;
+        };
+        self.running -= 1;
+        self.asked -= processors_of(&ended.job);
         self.clear(slot);
     }
 
@@ -257,6 +286,8 @@ impl Jobs {
             self.old.slots.items self.old.lines.nodes.items }
         ensures capacity { capacity_of self.new ≡ capacity_of self.old }
         ensures next { self.new.next ≡ self.old.next }
+        ensures running { self.new.running ≡ self.old.running }
+        ensures asked { self.new.asked ≡ self.old.asked }
         ensures put { HasPut self.old.slots.items self.new.slots.items slot
             (generation_of self.old slot) Absent }
         ensures generations { HasGenerations self.old self.new }
@@ -310,6 +341,8 @@ impl Jobs {
         };
         self.lines.leave(&wait.job, slot);
         put(&mut self.slots, slot, generation, Place::Running(run));
+        self.running += 1;
+        self.asked += processors_of(&wait.job);
     }
 
     /// Counts that a job with a block of dimension `k` passes a waiting one.

@@ -1,6 +1,6 @@
 //! The slots of a table of jobs.
 
-ghost use Rattle.std.specs.Prelude.{◌≡◌, ◌≢◌, ℕ, ◌+◌, ◌<◌, ◌≤◌, IfSome, IfNone, IsFalse, IsTrue, length};
+ghost use Rattle.std.specs.Prelude.{◌≡◌, ◌≢◌, ℕ, ◌+◌, ◌^◌, ◌<◌, ◌≤◌, IfSome, IfNone, IsFalse, IsTrue, length};
 ghost use Rattle.sched_law.specs.declared.job.Place.{Place as PlaceData};
 ghost use Rattle.sched_law.specs.declared.job.Place.TheVariants.{Absent};
 ghost use Rattle.sched_jobs.specs.Slots.{IsPresent, generation_in, place_by, place_in};
@@ -151,6 +151,14 @@ pub(crate) fn generation_at(slots: &[Slot], slot: u32) -> u64
     ensures { result ≡ generation_in slots.now slot }
 {
     slots[slot as usize].generation
+}
+
+/// Returns how many processors a job uses.
+pub(crate) fn processors_of(job: &SchedJob) -> u64
+    ensures processors { result ≡ job.now.processors }
+    ensures few { result ≤ 2 ^ 32 }
+{
+    job.processors as u64
 }
 
 // Writes a slot of a slice.

@@ -13,8 +13,8 @@ use Rattle.sched_jobs.specs.Shows.{arrival_of}
 use Rattle.sched_jobs.proofs.CountLemmas.{before_counted, numbers}
 use Rattle.sched_jobs.proofs.jobs.Jobs.count_before.Goals as goal
 
-pub returns : goal.returns
-returns c = λ w wait shows waits.
+pub returns-clause-count : goal.returns-clause-count
+returns-clause-count c = λ w wait shows waits.
     let mine : place_in c.args.self.now.slots.items c.args.slot ≡ Waiting c.in-Waiting.wait =
     sym (sym c.in-Waiting.is ∙ c.place_at.ensures ∙ ap (λ (xs : List Slot). place_in xs c.args.slot) c.deref.ensures.value) in
     let one : c.in-Waiting.wait ≡ wait = wait_is (sym mine ∙ waits) in

@@ -1,10 +1,15 @@
 -- A running job is present, and in no line.
-use Rattle.std.proofs.Common.{None, refl, sym, ◌∙◌, subst, ap}
-use Rattle.sched_law.specs.declared.job.Place.TheVariants.{Absent}
+use Rattle.std.proofs.Common.{◌≡◌, ℕ, ◌<◌, ◌≤◌, List, None, length, refl, sym, ◌∙◌, subst, ap, arith}
+use Rattle.sched_law.specs.declared.job.Place.TheVariants.{Absent, Running}
+use Rattle.sched_law.specs.State.{set}
+use Rattle.wait_queue.specs.Nodes.{key_of}
+use Rattle.sched_jobs.specs.declared.slots.Slot.{Slot}
 use Rattle.sched_law.proofs.SetLemmas.{absent_waits}
 use Rattle.sched_jobs.specs.Slots.{IsPresent, generation_in, line_of, place_in}
 use Rattle.sched_jobs.proofs.SlotLemmas.{place_here}
 use Rattle.sched_jobs.proofs.ShowLemmas.{set_same, waiting_changed}
+use Rattle.sched_jobs.specs.Sums.{ShowsRunning, one_runs, used_by}
+use Rattle.sched_jobs.proofs.SumLemmas.{asked_some, running_moved, running_some}
 use Rattle.sched_jobs.proofs.jobs.Jobs.finish.Goals as goal
 
 pub clear-requires-clause-job : goal.clear-requires-clause-job
@@ -12,7 +17,12 @@ clear-requires-clause-job c = subst IsPresent (sym c.requires.job.1) tt
 
 pub returns-clause-shows : goal.returns-clause-shows
 returns-clause-shows c = λ w shows.
-    let none = ap line_of c.requires.job.1 in (
+    let none = ap line_of c.requires.job.1 in
+    let at : place_in c.args.self.now.slots.items c.args.slot ≡ Running c.in-Running.ended =
+    sym (sym c.in-Running.is ∙ c.place_at.ensures ∙ ap (λ (xs : List Slot). place_in xs c.args.slot) c.deref.ensures.value) in
+    let inside : c.args.slot < length c.args.self.now.slots.items = c.requires.inside in
+    let some : 1 ≤ c.args.self.now.running = running_some w.place c.args.self.now.next c.args.self.now.slots.items c.args.self.now.running c.args.self.now.asked shows.3 c.args.slot c.in-Running.ended inside at in
+    let enough : c.in-Running.ended.job.processors ≤ c.args.self.now.asked = asked_some w.place c.args.self.now.next c.args.self.now.slots.items c.args.self.now.running c.args.self.now.asked shows.3 c.args.slot c.in-Running.ended inside at in (
       shows.0 ∙ sym c.clear.ensures.next,
       c.clear.ensures.slots w.place shows.1,
       waiting_changed c.args.self.now.slots.items c.clear.new.self.slots.items c.args.self.now.lines c.clear.new.self.lines c.args.slot (generation_in c.args.self.now.slots.items c.args.slot) Absent shows.2
@@ -20,8 +30,29 @@ returns-clause-shows c = λ w shows.
           (set_same c.args.self.now.slots.items c.clear.new.self.lines (λ u. line_of (place_in c.args.self.now.slots.items u)) c.args.slot None
           (c.clear.ensures.lines (λ u. line_of (place_in c.args.self.now.slots.items u)) shows.2.shown none) none)
           (λ u other. c.clear.ensures.ranks u) (λ wait is. absurd (absent_waits is)),
+      subst (λ (n : ℕ). ShowsRunning (set w.place (key_of c.args.self.now.lines.nodes.items c.args.slot) Absent) n c.clear.new.self.slots.items c.clear.new.self.running c.clear.new.self.asked) (sym c.clear.ensures.next)
+          (running_moved w.place c.args.self.now.next c.args.self.now.slots.items c.args.self.now.running c.args.self.now.asked shows.3 c.clear.new.self.slots.items c.clear.new.self.running
+          c.clear.new.self.asked c.args.slot (generation_in c.args.self.now.slots.items c.args.slot) Absent c.clear.ensures.put (omega arith) c.args.self.now.free c.args.self.now.lines.nodes.items shows.1
+          (subst IsPresent (sym c.requires.job.1) tt)
+          (let one : one_runs (place_in c.args.self.now.slots.items c.args.slot) ≡ 1 = ap one_runs c.requires.job.1 in omega (arith, one, c.clear.ensures.running, some))
+          (let mine : used_by (place_in c.args.self.now.slots.items c.args.slot) ≡ c.in-Running.ended.job.processors = ap used_by at in omega (arith, mine, c.clear.ensures.asked, c.processors_of.ensures.processors, enough))),
     )
 
 pub returns-clause-place : goal.returns-clause-place
 returns-clause-place c =
     place_here c.args.self.now.slots.items c.clear.new.self.slots.items c.args.slot (generation_in c.args.self.now.slots.items c.args.slot) Absent c.clear.ensures.put c.args.slot refl
+
+pub overflow_sub-self : goal.overflow_sub-self
+overflow_sub-self c =
+    let at : place_in c.args.self.now.slots.items c.args.slot ≡ Running c.requires.job.0 = c.requires.job.1 in
+    let some : 1 ≤ c.args.self.now.running = running_some c.requires.shows.0.place c.args.self.now.next c.args.self.now.slots.items c.args.self.now.running c.args.self.now.asked c.requires.shows.1.3
+    c.args.slot c.requires.job.0 c.requires.inside at in
+    omega (arith, some)
+
+pub overflow_sub-self-2 : goal.overflow_sub-self-2
+overflow_sub-self-2 c =
+    let at : place_in c.args.self.now.slots.items c.args.slot ≡ Running c.in-Running.ended =
+    sym (sym c.in-Running.is ∙ c.place_at.ensures ∙ ap (λ (xs : List Slot). place_in xs c.args.slot) c.deref.ensures.value) in
+    let enough : c.in-Running.ended.job.processors ≤ c.args.self.now.asked = asked_some c.requires.shows.0.place c.args.self.now.next c.args.self.now.slots.items c.args.self.now.running c.args.self.now.asked
+    c.requires.shows.1.3 c.args.slot c.in-Running.ended c.requires.inside at in
+    omega (arith, enough, c.processors_of.ensures.processors)

@@ -1,16 +1,19 @@
 -- A waiting job leaves its line, gets another place, and keeps its number.
-use Rattle.std.proofs.Common.{◌≡◌, ℕ, List, sym, ◌∙◌, ap, subst}
+use Rattle.std.proofs.Common.{◌≡◌, ℕ, ◌+◌, ◌*◌, ◌^◌, ◌≤◌, List, sym, ◌∙◌, ap, subst, arith}
 use Rattle.sched_law.specs.declared.job.Place.{Place}
 use Rattle.sched_law.specs.declared.job.Place.TheVariants.{Waiting, Running}
 use Rattle.sched_law.specs.declared.job.SchedWait.{SchedWait}
 use Rattle.sched_law.specs.State.{end_after, set}
 use Rattle.sched_law.proofs.SetLemmas.{runs_waits, wait_is}
+use Rattle.wait_queue.specs.declared.nodes.TheConstants.{MAX_SLOTS}
 use Rattle.wait_queue.specs.Nodes.{key_of}
 use Rattle.sched_jobs.specs.declared.slots.Slot.{Slot}
 use Rattle.sched_jobs.specs.Slots.{IsPresent, generation_in, line_of, place_in}
 use Rattle.sched_jobs.specs.Shows.{ShowsSlots}
 use Rattle.sched_jobs.proofs.ChangeLemmas.{replace_shows}
 use Rattle.sched_jobs.proofs.ShowLemmas.{waiting_changed}
+use Rattle.sched_jobs.specs.Sums.{ShowsRunning, one_runs, used_by}
+use Rattle.sched_jobs.proofs.SumLemmas.{asked_few, running_few, running_moved}
 use Rattle.sched_jobs.proofs.jobs.Jobs.start.Goals as goal
 
 pub returns-clause-shows : goal.returns-clause-shows
@@ -30,4 +33,22 @@ returns-clause-shows c = λ w wait shows waits at_end.
       subst (λ (x : Place). ShowsSlots (set w.place (key_of c.args.self.now.lines.nodes.items c.args.slot) x) c.args.self.now.next c.args.self.now.free c.put.new.slots.items c.leave.new.self.nodes.items) becomes done,
       waiting_changed c.args.self.now.slots.items c.put.new.slots.items c.args.self.now.lines c.leave.new.self c.args.slot c.generation_at-generation.result to shows.2 c.put.ensures c.leave.ensures.slots
           left (λ u other. c.leave.ensures.ranks u) (λ wait is. absurd (runs_waits is)),
+      subst (λ (x : Place). ShowsRunning (set w.place (key_of c.args.self.now.lines.nodes.items c.args.slot) x) c.args.self.now.next c.put.new.slots.items (c.args.self.now.running + 1) (c.args.self.now.asked + c.processors_of.result)) becomes
+          (running_moved w.place c.args.self.now.next c.args.self.now.slots.items c.args.self.now.running c.args.self.now.asked shows.3 c.put.new.slots.items (c.args.self.now.running + 1)
+          (c.args.self.now.asked + c.processors_of.result) c.args.slot c.generation_at-generation.result to c.put.ensures (subst (λ (n : ℕ). n ≤ 2 ^ 32) c.processors_of.ensures.processors c.processors_of.ensures.few)
+          c.args.self.now.free c.args.self.now.lines.nodes.items shows.1 (subst IsPresent (sym waits) tt)
+          (let none : one_runs (place_in c.args.self.now.slots.items c.args.slot) ≡ 0 = ap one_runs mine in omega (arith, none))
+          (let none : used_by (place_in c.args.self.now.slots.items c.args.slot) ≡ 0 = ap used_by mine in omega (arith, none, c.processors_of.ensures.processors))),
     )
+
+pub overflow_add-self : goal.overflow_add-self
+overflow_add-self c =
+    let few : c.args.self.now.running ≤ MAX_SLOTS * 2 ^ 32 =
+    running_few c.requires.shows.0.place c.args.self.now.next c.args.self.now.slots.items c.args.self.now.running c.args.self.now.asked c.requires.shows.1.3 c.requires.shows.1.1.limit in
+    omega (arith, few)
+
+pub overflow_add-self-2 : goal.overflow_add-self-2
+overflow_add-self-2 c =
+    let few : c.args.self.now.asked ≤ MAX_SLOTS * 2 ^ 32 =
+    asked_few c.requires.shows.0.place c.args.self.now.next c.args.self.now.slots.items c.args.self.now.running c.args.self.now.asked c.requires.shows.1.3 c.requires.shows.1.1.limit in
+    omega (arith, few, c.processors_of.ensures.few)

@@ -7,6 +7,8 @@ use Rattle.sched_jobs.specs.Slots.{generation_in, line_at, line_of, place_in}
 use Rattle.sched_jobs.specs.Shows.{ShowsSlots}
 use Rattle.sched_jobs.proofs.ChangeLemmas.{after_inside, first_absent, first_is_free, full_has, submit_shows}
 use Rattle.sched_jobs.proofs.ShowLemmas.{may_join, own_of, waiting_changed}
+use Rattle.sched_jobs.specs.Sums.{ShowsRunning}
+use Rattle.sched_jobs.proofs.SumLemmas.{running_added}
 use Rattle.sched_jobs.proofs.jobs.Jobs.submit.Goals as goal
 
 pub returns-then-slot-len-clause-full : goal.returns-then-slot-len-clause-full
@@ -51,4 +53,7 @@ returns-clause-shows c = λ w shows.
       waiting_changed c.args.self.now.slots.items c.put.new.slots.items c.args.self.now.lines c.join.new.self c.args.self.now.free (c.generation_at-generation.result + 1)
           (Waiting (record { job = c.args.job; passed = 0 })) shows.2 c.put.ensures c.join.ensures.slots (c.join.ensures.lines (λ u. line_of (place_in c.args.self.now.slots.items u)) may) c.join.ensures.ranks
           (own_of _ (record { job = c.args.job; passed = 0 }) c.join.ensures.rank c.requires.class c.requires.dim),
+      subst (λ (x : ℕ). ShowsRunning (set w.place x (Waiting (record { job = c.args.job; passed = 0 }))) (c.args.self.now.next + 1) c.put.new.slots.items c.args.self.now.running c.args.self.now.asked) (sym shows.0)
+          (running_added w.place c.args.self.now.next c.args.self.now.slots.items c.put.new.slots.items c.args.self.now.running c.args.self.now.asked c.args.self.now.free
+          (c.generation_at-generation.result + 1) (record { job = c.args.job; passed = 0 }) shows.3 c.put.ensures inside absent),
     )
