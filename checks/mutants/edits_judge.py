@@ -19,15 +19,15 @@ from checks.mutants.verdict import NAMES_ONLY, lines_of, verdict_of_event
 
 BITS, MEANING = "src/bits.rt", "specs/Represents.antt"
 FILL, MEANS = "bits[start..end].fill(taken);", "a p → bit_of bits p ≡ true"
-NONE, WROTE = "none_set(&bits[start..end])", "write(bits, n, region, true);"
+NONE, WROTE, FOUND = "none_set(&bits[start..end])", "write(bits, n, region, true);", "return Some(region);"
 # By crate and name: file, old text, new text, the verdict, and the function that is proved over a definition.
 PLANTED = {
     "region_bits/wrong_body": (BITS, FILL, "bits[start..end].fill(!taken);", "refused"),
     "region_bits/hidden_and_unchanged": ("src/regions.rt", WROTE, WROTE, "PROVED"),
-    "region_bits/unknown_name": (BITS, "bits.fill(false);", "bits.fill(falsehood);", "BAD"),
+    "region_bits/unknown_name": (BITS, FOUND, "return Some(no_such_region);", "BAD"),
     "region_bits/right_by_another_way": (BITS, NONE, "bits[start..end].iter().all(|taken| !*taken)", "NAMES"),
     "region_bits/second_wrong_body": (BITS, FILL, "bits[start..end].fill(false);", "refused"),
-    "region_bits/second_and_unchanged": (BITS, "bits.fill(false);", "bits.fill(false);", "PROVED"),
+    "region_bits/second_and_unchanged": (BITS, FOUND, FOUND, "PROVED"),
     "region_bits/second_by_the_same_way": (BITS, NONE, NONE, "PROVED"),
     "region_bits/stale": (BITS, "bits.fill(no_such_text);", "bits.fill(true);", "BAD"),
     "region_bits/wrong_definition": (MEANING, MEANS, MEANS.replace("true", "false"), "refused", "regions::set_region"),
