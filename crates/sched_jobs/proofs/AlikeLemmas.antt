@@ -61,7 +61,7 @@ shown_empty nodes queues used none n count limit are is_queue queues_count used_
 }
   where
     all_none : (q : ℕ) → q < CLASSES * (MAX_BITMAP_DIM + 1) → queue_in queues q ≡ none
-    all_none q within = ap (λ (xs : List QueueData). queue_in xs q) are ∙ get_or-replicate (CLASSES * (MAX_BITMAP_DIM + 1)) q none (record { root = 0 }) within
+    all_none q within = ap (λ (xs : List QueueData). queue_in xs q) are ∙ get_or-replicate (CLASSES * (MAX_BITMAP_DIM + 1)) q none (record { root = 0; front = 0 }) within
 
 module _ (nodes new : List NodeData) (queues made : List QueueData) (used flags : List Bool) (line : ℕ → Option ℕ) (class dim slot : ℕ)
     (k : ShowsLines nodes queues used line) (low : dim ≤ MAX_BITMAP_DIM) (count : length made ≡ length queues) (flags_count : length flags ≡ length used)

@@ -105,6 +105,15 @@ module _ (nodes : List NodeData) (line : ℕ → Option ℕ) (wanted : Wanted) (
     | inr is ↦ (let below : estimate_of nodes u < wanted.limit = is.1 in let zero = none is.0 in omega (arith, below, zero))
   ]
 
+-- no dimension from a bound on is wanted
+pub below_all : (nodes : List NodeData) (line : ℕ → Option ℕ) (wanted : Wanted) (class past : ℕ) (answer : Option ℕ) → past ≤ MAX_BITMAP_DIM + 1
+    → ((d : ℕ) → d < MAX_BITMAP_DIM + 1 → d < wanted.any → d < past) → ((d : ℕ) → d < MAX_BITMAP_DIM + 1 → d < wanted.most → d < past)
+    → IsLeast nodes (IsFitBelow nodes line wanted class past) answer → IsLeast nodes (IsFitIn nodes line wanted class) answer
+below_all nodes line wanted class past answer limit any most is =
+    least_alike nodes (IsFitBelow nodes line wanted class past) (IsFitIn nodes line wanted class)
+    (λ u has. (has.0, (let less : has.0 < past = has.1 in omega (arith, less, limit)), has.2))
+    (λ u has. (has.0, elim has.2.1 [ inl less ↦ any has.0 has.1 less | inr is ↦ most has.0 has.1 is.0 ], has.2)) answer is
+
 -- a slot of a line is one of the nodes
 pub least_inside : (nodes : List NodeData) (queues : List QueueData) (line : ℕ → Option ℕ) (wanted : Wanted) (class dim : ℕ) (answer : Option ℕ) → line_at class dim < length queues
     → AreLines nodes queues line → IsLeast nodes (IsFit nodes line wanted class dim) answer → IfSome answer (λ u. u < length nodes)

@@ -63,7 +63,7 @@ has_item old queues line at slot inside are was = record {
 
 -- a write of one queue keeps the others
 pub as_before : (queues : List QueueData) (at : ℕ) (x : QueueData) → (q : ℕ) → q ≢ at → queue_in (slice_set queues at x) q ≡ queue_in queues q
-as_before queues at x q other = get_or-set_other queues at q x (record { root = 0 }) other
+as_before queues at x q other = get_or-set_other queues at q x (record { root = 0; front = 0 }) other
 
 module _ (old new : List NodeData) (queues made : List QueueData) (line : ℕ → Option ℕ) (at slot : ℕ)
     (inside : at < length queues) (len : length made ≡ length queues) (size : length new ≡ length old)

@@ -13,7 +13,7 @@ use Rattle.sched_jobs.specs.Slots.{line_at}
 
 -- One of the queues.
 abbrev pub queue_in : List QueueData → ℕ → QueueData
-queue_in queues q = slice_index_or queues q (record { root = 0 })
+queue_in queues q = slice_index_or queues q (record { root = 0; front = 0 })
 
 -- A queue has exactly the slots of its line.
 pub record IsLine (nodes : List NodeData) (queues : List QueueData) (line : ℕ → Option ℕ) (q : ℕ) : Type 0 where

@@ -110,7 +110,8 @@ fn first_of_class(
         → IsLeast nodes.now (IsFitIn nodes.now line wanted.now class) result }
 {
     let mut best: Option<u32> = None;
-    for dim in 0..DIMS {
+    let past = wanted.any.max(wanted.most).min(DIMS);
+    for dim in 0..past {
         let one = first_fit(nodes, queues, class, dim, wanted);
         best = older(nodes, best, one);
     }

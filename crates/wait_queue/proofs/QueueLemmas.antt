@@ -1,5 +1,5 @@
 -- Queues.
-use Rattle.std.proofs.Common.{◌≡◌, ◌≢◌, ℕ, ◌*◌, ◌/◌, ◌%◌, ◌<◌, ◌≤◌, inl, inr, cond, List, [], ◌∷◌, ◌++◌, Some, length, refl, sym, ◌∙◌, ap, subst, arith}
+use Rattle.std.proofs.Common.{◌≡◌, ◌≢◌, ℕ, ◌*◌, ◌/◌, ◌%◌, ◌<◌, ◌≤◌, inl, inr, cond, List, [], ◌∷◌, ◌++◌, Option, Some, length, refl, sym, ◌∙◌, ap, subst, arith}
 use Rattle.std.proofs.lemmas.Bool.{eq-eqb, ne_eqb}
 use Rattle.wait_queue.specs.declared.nodes.TheConstants.{MAX_SLOTS, NO_LINK}
 use Rattle.wait_queue.specs.declared.nodes.QueueNode.{QueueNode as NodeData}
@@ -16,15 +16,19 @@ use Rattle.wait_queue.proofs.RemoveLemmas.{is_forked, without_none}
 
 -- a tree at the root is a queue
 pub queue_of_tree : (nodes : List NodeData) (queue : QueueData) (slots : List ℕ) (tree : Tree) → IsAt nodes queue.root tree
-    → slots_of tree ≡ slots → IsQueue nodes queue slots
-queue_of_tree nodes queue slots tree found all = record {
+    → slots_of tree ≡ slots → Some queue.front ≡ first_slot slots → IsQueue nodes queue slots
+queue_of_tree nodes queue slots tree found all front = record {
   rising = subst (IsRising nodes) all (slots_rise nodes tree found.held);
   inside = λ slot h. slots_inside nodes tree found.held slot (subst (λ xs. Has xs slot) (sym all) h);
+  first = λ slot is. one_front queue.front slot (front ∙ is);
   shape = inr (record { tree = tree; found = found; all = all });
 }
+  where
+    one_front : (a b : ℕ) → ◌≡◌ {A = Option ℕ} (Some a) (Some b) → a ≡ b
+    one_front a b same = cc
 
 pub empty_queue : (nodes : List NodeData) (queue : QueueData) → queue.root ≡ NO_LINK → IsQueue nodes queue []
-empty_queue nodes queue is = record { rising = tt; inside = λ slot h. absurd h; shape = inl (is, refl) }
+empty_queue nodes queue is = record { rising = tt; inside = λ slot h. absurd h; first = λ slot none. absurd cc; shape = inl (is, refl) }
 
 -- no tree has the link of an empty queue
 pub not_empty_link : (nodes : List NodeData) (link : ℕ) (tree : Tree) → IsAt nodes link tree → link ≢ NO_LINK
@@ -50,6 +54,30 @@ pub is_tree : (nodes : List NodeData) (queue : QueueData) (slots : List ℕ) →
     → queue.root ≢ NO_LINK → HasTree nodes queue.root slots
 is_tree nodes queue slots is some = elim is.shape [ inl none ↦ absurd (some none.0) | inr tree ↦ tree ]
 
+pub first_slot_of : (nodes : List NodeData) (link : ℕ) (slots : List ℕ) (found : HasTree nodes link slots)
+    → Some (first_of found.tree) ≡ first_slot slots
+first_slot_of nodes link slots found =
+    let head = first_is_head found.tree in sym (ap first_slot head.1) ∙ ap first_slot found.all
+
+-- the front is the first slot
+pub front_is : (nodes : List NodeData) (queue : QueueData) (slots : List ℕ) → IsQueue nodes queue slots → HasTree nodes queue.root slots
+    → Some queue.front ≡ first_slot slots
+front_is nodes queue slots is found =
+    let first = first_slot_of nodes queue.root slots found in
+    ap Some (is.first (first_of found.tree) (sym first)) ∙ first
+
+-- a slot that is appended is not the first one
+pub first_more : (slots more : List ℕ) (x : ℕ) → Some x ≡ first_slot slots → Some x ≡ first_slot (slots ++ more)
+first_more [] more x is = absurd cc
+first_more (first ∷ others) more x is = is
+
+-- a list without a slot begins as before, if it was not the first one
+pub first_without : (slots : List ℕ) (slot x : ℕ) → Some x ≡ first_slot slots → x ≢ slot → Some x ≡ first_slot (without slot slots)
+first_without [] slot x is other = absurd cc
+first_without (first ∷ others) slot x is other =
+    let same : x ≡ first = cc in
+    is ∙ ap first_slot (sym (ap (λ b. cond b (without slot others) (first ∷ without slot others)) (ne_eqb slot first (λ one. other (same ∙ sym one)))))
+
 -- a queue stays if the nodes of its slots do
 pub queue_rests : (old new : List NodeData) (queue : QueueData) (slots : List ℕ) → IsQueue old queue slots
     → length old ≤ length new → (length old ≤ MAX_SLOTS → length new ≤ MAX_SLOTS)
@@ -70,7 +98,7 @@ queue_rests old new queue slots is longer limit same = elim is.shape [
         linked = some.found.linked;
         held = holds_kept old new some.tree agrees some.found.held;
       } in
-      queue_of_tree new queue slots some.tree at some.all)
+      queue_of_tree new queue slots some.tree at some.all (front_is old queue slots is some))
 ]
 
 pub queue_kept : (old new : List NodeData) (touched : List ℕ) (queue : QueueData) (slots : List ℕ) → HasOthers old new touched
@@ -107,11 +135,6 @@ others_twice old mid new slots one two = record {
   same_nodes = λ u out. two.same_nodes u out ∙ one.same_nodes u out;
 }
 
-pub first_slot_of : (nodes : List NodeData) (link : ℕ) (slots : List ℕ) (found : HasTree nodes link slots)
-    → Some (first_of found.tree) ≡ first_slot slots
-first_slot_of nodes link slots found =
-    let head = first_is_head found.tree in sym (ap first_slot head.1) ∙ ap first_slot found.all
-
 -- ---- push ----
 
 -- what `put_item` wrote
@@ -130,12 +153,12 @@ module _ (old mid : List NodeData) (queue : QueueData) (slots : List ℕ) (slot 
       (λ hit. elim hit [ inl same ↦ can.none_of (subst (Has slots) same h) | inr none ↦ none ]))
 
   -- a queue of one
-  pub push_first : (made : QueueData) → queue.root ≡ NO_LINK → made.root ≡ 2 * slot → IsQueue mid made (slots ++ slot ∷ [])
-  push_first made empty link =
+  pub push_first : (made : QueueData) → queue.root ≡ NO_LINK → made.root ≡ 2 * slot → made.front ≡ slot → IsQueue mid made (slots ++ slot ∷ [])
+  push_first made empty link front =
       let none : slots ≡ [] = is_no_slot old queue slots can.is_queue empty in
       let equal = put.rest.same_length in
       let at : IsAt mid made.root (leaf slot) = record { limit = omega arith; linked = link; held = omega arith } in
-      subst (λ xs. IsQueue mid made (xs ++ slot ∷ [])) (sym none) (queue_of_tree mid made (slot ∷ []) (leaf slot) at refl)
+      subst (λ xs. IsQueue mid made (xs ++ slot ∷ [])) (sym none) (queue_of_tree mid made (slot ∷ []) (leaf slot) at refl (ap Some front))
 
   pub can_push : (some : queue.root ≢ NO_LINK) → CanPush mid queue.root slot (is_tree mid queue slots still_queue some).tree
   can_push some =
@@ -149,12 +172,13 @@ module _ (old mid : List NodeData) (queue : QueueData) (slots : List ℕ) (slot 
       }
 
   pub pushed_queue : (new : List NodeData) (made : QueueData) (link : ℕ) (some : queue.root ≢ NO_LINK)
-      → HasPushed mid new slot link (is_tree mid queue slots still_queue some).tree → made.root ≡ link
+      → HasPushed mid new slot link (is_tree mid queue slots still_queue some).tree → made.root ≡ link → made.front ≡ queue.front
       → IsQueue new made (slots ++ slot ∷ [])
-  pushed_queue new made link some done is =
+  pushed_queue new made link some done is front =
       let found = is_tree mid queue slots still_queue some in
       queue_of_tree new made (slots ++ slot ∷ []) done.made (subst (λ l. IsAt new l done.made) (sym is) done.found)
       (done.appended ∙ ap (λ xs. xs ++ slot ∷ []) found.all)
+      (first_more slots (slot ∷ []) made.front (ap Some front ∙ front_is mid queue slots still_queue found))
 
   pub put_others : HasOthers old mid (slot ∷ slots)
   put_others = others_more old mid (slot ∷ []) (slot ∷ slots) (λ u h. elim h [ inl same ↦ inl same | inr none ↦ absurd none ]) put.rest
@@ -211,11 +235,22 @@ module _ (old : List NodeData) (queue : QueueData) (slots : List ℕ) (slot : �
       ap (without slot) (sym tree_of.all ∙ ap slots_of own) ∙ ap (λ b. cond b [] (slot ∷ [])) (eq-eqb slot slot refl) in
       subst (IsQueue old made) (sym none) (empty_queue old made empty)
 
-  pub removed_queue : (new : List NodeData) (made : QueueData) (link : ℕ) → HasRemoved old new slot link tree_of.tree → made.root ≡ link
+  pub removed_queue : (new : List NodeData) (made : QueueData) (link : ℕ) → (done : HasRemoved old new slot link tree_of.tree) → made.root ≡ link → made.front ≡ first_of done.made
       → IsQueue new made (without slot slots)
-  removed_queue new made link done is =
+  removed_queue new made link done is front =
       queue_of_tree new made (without slot slots) done.made (subst (λ l. IsAt new l done.made) (sym is) done.found)
       (done.left_out ∙ ap (without slot) tree_of.all)
+      (let head = first_is_head done.made in ap Some front ∙ sym (ap first_slot head.1) ∙ ap first_slot (done.left_out ∙ ap (without slot) tree_of.all))
+
+  -- the front stays, if it was not removed
+  pub front_left : (new : List NodeData) (link : ℕ) (done : HasRemoved old new slot link tree_of.tree) → queue.front ≢ slot → queue.front ≡ first_of done.made
+  front_left new link done other =
+      let head = first_is_head done.made in
+      let left = first_without slots slot queue.front (front_is old queue slots has.is_queue tree_of) other in
+      one_of_two queue.front (first_of done.made) (left ∙ sym (ap first_slot (done.left_out ∙ ap (without slot) tree_of.all)) ∙ ap first_slot head.1)
+    where
+      one_of_two : (a b : ℕ) → ◌≡◌ {A = Option ℕ} (Some a) (Some b) → a ≡ b
+      one_of_two a b same = cc
 
   pub removed_others : (new : List NodeData) (link : ℕ) → HasRemoved old new slot link tree_of.tree → HasOthers old new slots
   removed_others new link done =
@@ -239,9 +274,11 @@ remove_only old queue made before slot after is leads empty =
 pub remove_one : (old new : List NodeData) (queue made : QueueData) (link : ℕ) (before : List ℕ) (slot : ℕ) (after : List ℕ)
     → IsQueue old queue (before ++ slot ∷ after) → queue.root ≢ 2 * slot → made.root ≡ link
     → ((tree : Tree) → CanRemove old queue.root slot tree → HasRemoved old new slot link tree)
+    → ((tree : Tree) → IsAt new link tree → (queue.front ≢ slot → queue.front ≡ first_of tree) → made.front ≡ first_of tree)
     → IsQueue new made (before ++ after)
-remove_one old new queue made link before slot after is other root done =
+remove_one old new queue made link before slot after is other root done front =
     let has = split_has old queue before slot after is in
+    let removed = done (tree_of old queue (before ++ slot ∷ after) slot has).tree (can_remove old queue (before ++ slot ∷ after) slot has other) in
     subst (IsQueue new made) (rising_without old before slot after is.rising)
-    (removed_queue old queue (before ++ slot ∷ after) slot has new made link
-    (done (tree_of old queue (before ++ slot ∷ after) slot has).tree (can_remove old queue (before ++ slot ∷ after) slot has other)) root)
+    (removed_queue old queue (before ++ slot ∷ after) slot has new made link removed root
+    (front removed.made removed.found (front_left old queue (before ++ slot ∷ after) slot has new link removed)))

@@ -1,10 +1,10 @@
 -- Queues, which are lists of slots in order of their keys.
-use Rattle.std.specs.Prelude.{◌≡◌, ℕ, ◌<◌, ◌≤◌, ◌⊎◌, List, [], length}
+use Rattle.std.specs.Prelude.{◌≡◌, ℕ, ◌<◌, ◌≤◌, ◌⊎◌, List, [], Some, length}
 use Rattle.wait_queue.specs.declared.nodes.TheConstants.{NO_LINK}
 use Rattle.wait_queue.specs.declared.nodes.QueueNode.{QueueNode as NodeData}
 use Rattle.wait_queue.specs.declared.queues.Queue.{Queue as QueueData}
 use Rattle.wait_queue.specs.Nodes.{estimate_of, key_of}
-use Rattle.wait_queue.specs.Lists.{Has, IsRising}
+use Rattle.wait_queue.specs.Lists.{Has, IsRising, first_slot}
 use Rattle.wait_queue.specs.Inner.Tree.{Tree, IsAt, slots_of}
 
 -- The nodes hold a tree of these slots at a link.
@@ -18,6 +18,7 @@ pub record HasTree (nodes : List NodeData) (link : ℕ) (slots : List ℕ) : Typ
 pub record IsQueue (nodes : List NodeData) (queue : QueueData) (slots : List ℕ) : Type 0 where
   pub rising : IsRising nodes slots
   pub inside : (slot : ℕ) → Has slots slot → slot < length nodes
+  pub first : (slot : ℕ) → first_slot slots ≡ Some slot → queue.front ≡ slot
   pub shape : ((queue.root ≡ NO_LINK) × (slots ≡ [])) ⊎ HasTree nodes queue.root slots
 
 -- A slot that is none of a queue's can be appended with a key above all keys of the queue.

@@ -9,12 +9,14 @@ ghost use Rattle.wait_queue.specs.Lists.{AreApart, Has, first_slot};
 ghost use Rattle.wait_queue.specs.Queues.{CanAppend, HasItem, HasNoneWithin, IsOldestWithin, IsQueue};
 
 use crate::nodes::{MAX_SLOTS, NO_LINK, QueueNode, least_in, put_item, size_in};
-use crate::trees::{count_in, is_leaf_of, oldest_in, oldest_within_in, push_in, remove_in};
+use crate::trees::{count_in, is_leaf_of, oldest_within_in, place_after, push_in, remove_in};
 
 /// A queue of items, which are slots of a slice of nodes.
 #[derive(Clone, Copy)]
 pub struct Queue {
     root: u32,
+    /// The item with the least key, if there is an item.
+    front: u32,
 }
 
 impl Queue {
@@ -22,7 +24,10 @@ impl Queue {
     pub fn new() -> Queue
         ensures { (nodes : List NodeData) → IsQueue nodes result [] }
     {
-        Queue { root: NO_LINK }
+        Queue {
+            root: NO_LINK,
+            front: 0,
+        }
     }
 }
 
@@ -53,7 +58,7 @@ pub fn oldest(nodes: &[QueueNode], queue: &Queue) -> Option<u32>
     if queue.root == NO_LINK {
         return None;
     }
-    Some(oldest_in(nodes, queue.root))
+    Some(queue.front)
 }
 
 /// Returns the item with the least key among those with an estimate of at most `limit`.
@@ -103,6 +108,7 @@ pub fn push(nodes: &mut [QueueNode], queue: &mut Queue, slot: u32, key: u64, est
     put_item(nodes, slot, key, estimate);
     if queue.root == NO_LINK {
         queue.root = 2 * slot;
+        queue.front = slot;
         return;
     }
     queue.root = push_in(nodes, queue.root, slot);
@@ -124,6 +130,7 @@ pub fn remove(nodes: &mut [QueueNode], queue: &mut Queue, slot: u32)
         return;
     }
     queue.root = remove_in(nodes, queue.root, slot);
+    queue.front = place_after(nodes, queue.front, queue.root, slot);
 }
 
 /// Says that a queue stays as it is if the nodes of its items do. A slice may get longer.

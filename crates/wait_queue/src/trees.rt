@@ -91,8 +91,8 @@ pub(crate) fn is_leaf_of(link: u32, slot: u32) -> bool
     link % 2 == 0 && link / 2 == slot
 }
 
-// Returns the slot for a fork that lies in slot `here`. An item to its right was removed.
-fn place_after(nodes: &[QueueNode], here: u32, right: u32, slot: u32) -> u32
+/// Returns the first item of a tree of which an item was removed. It was `here`.
+pub(crate) fn place_after(nodes: &[QueueNode], here: u32, right: u32, slot: u32) -> u32
     requires { (tree : Tree) × IsAt nodes.now right tree }
     ensures { (tree : Tree) → IsAt nodes.now right tree → (here ≢ slot → here ≡ first_of tree)
         → result ≡ first_of tree }

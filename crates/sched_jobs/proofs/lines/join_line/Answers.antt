@@ -16,5 +16,5 @@ returns-clause-lines c = λ line can.
     let may = can_append c.args.nodes.now c.args.queues.now line c.args.at c.args.slot c.requires.at c.args.key can in
     joined c.args.nodes.now c.push.new.nodes c.args.queues.now (slice_set c.args.queues.now c.args.at c.push.new.queue) line c.args.at c.args.slot c.requires.at (search rules) (search rules)
     (as_before c.args.queues.now c.args.at c.push.new.queue) c.args.key can
-    (subst (λ (x : QueueData). IsQueue c.push.new.nodes x (here.slots ++ c.args.slot ∷ [])) (sym (get_or-set_same c.args.queues.now c.args.at c.push.new.queue (record { root = 0 }) c.requires.at)) (c.push.ensures.queue here.slots may))
+    (subst (λ (x : QueueData). IsQueue c.push.new.nodes x (here.slots ++ c.args.slot ∷ [])) (sym (get_or-set_same c.args.queues.now c.args.at c.push.new.queue (record { root = 0; front = 0 }) c.requires.at)) (c.push.ensures.queue here.slots may))
     (c.push.ensures.others here.slots may)

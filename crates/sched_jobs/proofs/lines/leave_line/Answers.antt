@@ -15,5 +15,5 @@ returns-clause-lines c = λ line are was.
     let here = are.each c.args.at c.requires.at in
     left c.args.nodes.now c.remove.new.nodes c.args.queues.now (slice_set c.args.queues.now c.args.at c.remove.new.queue) line c.args.at c.args.slot c.requires.at (search rules) (search rules)
     (as_before c.args.queues.now c.args.at c.remove.new.queue) are was
-    (λ before after is. subst (λ (x : QueueData). IsQueue c.remove.new.nodes x (before ++ after)) (sym (get_or-set_same c.args.queues.now c.args.at c.remove.new.queue (record { root = 0 }) c.requires.at)) (c.remove.ensures.queue before after is))
+    (λ before after is. subst (λ (x : QueueData). IsQueue c.remove.new.nodes x (before ++ after)) (sym (get_or-set_same c.args.queues.now c.args.at c.remove.new.queue (record { root = 0; front = 0 }) c.requires.at)) (c.remove.ensures.queue before after is))
     (c.remove.ensures.others here.slots (has_item c.args.nodes.now c.args.queues.now line c.args.at c.args.slot c.requires.at are was))

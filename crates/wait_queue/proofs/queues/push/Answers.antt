@@ -6,7 +6,7 @@ use Rattle.wait_queue.proofs.queues.push.Goals as goal
 pub returns-then-queue-clause-queue : goal.returns-then-queue-clause-queue
 returns-then-queue-clause-queue c = λ slots can.
     let put : HasPut c.args.nodes.now c.put_item.new.nodes c.args.slot c.args.key = record { own = c.put_item.ensures.key; rest = c.put_item.ensures.others } in
-    push_first c.args.nodes.now c.put_item.new.nodes c.args.queue.now slots c.args.slot c.args.key put c.requires.limit c.requires.slot can _ c.if-queue.true refl
+    push_first c.args.nodes.now c.put_item.new.nodes c.args.queue.now slots c.args.slot c.args.key put c.requires.limit c.requires.slot can _ c.if-queue.true refl refl
 
 pub returns-then-queue-clause-keys : goal.returns-then-queue-clause-keys
 returns-then-queue-clause-keys c = λ u other.
@@ -30,7 +30,7 @@ pub returns-clause-queue : goal.returns-clause-queue
 returns-clause-queue c = λ slots can.
     let put : HasPut c.args.nodes.now c.put_item.new.nodes c.args.slot c.args.key = record { own = c.put_item.ensures.key; rest = c.put_item.ensures.others } in
     let done = c.push_in-queue.ensures (is_tree c.put_item.new.nodes c.args.queue.now slots (still_queue c.args.nodes.now c.put_item.new.nodes c.args.queue.now slots c.args.slot c.args.key put c.requires.limit c.requires.slot can) c.if-queue.false).tree (can_push c.args.nodes.now c.put_item.new.nodes c.args.queue.now slots c.args.slot c.args.key put c.requires.limit c.requires.slot can c.if-queue.false) in
-    pushed_queue c.args.nodes.now c.put_item.new.nodes c.args.queue.now slots c.args.slot c.args.key put c.requires.limit c.requires.slot can c.push_in-queue.new.nodes _ c.push_in-queue.result c.if-queue.false done refl
+    pushed_queue c.args.nodes.now c.put_item.new.nodes c.args.queue.now slots c.args.slot c.args.key put c.requires.limit c.requires.slot can c.push_in-queue.new.nodes _ c.push_in-queue.result c.if-queue.false done refl refl
 
 pub returns-clause-key : goal.returns-clause-key
 returns-clause-key c =
