@@ -1,0 +1,3 @@
+pub mod AsBox
+mod DimLemmas
+mod PlaceLemmas

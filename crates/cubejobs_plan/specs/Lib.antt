@@ -1,0 +1,10 @@
+pub mod Answers
+pub mod Blocks
+pub mod CoreIn
+pub mod Handle
+pub mod InnerLending
+pub mod InnerOpaquePtr
+pub mod Jobs
+pub mod Looks
+pub mod Options
+pub mod Sizes

@@ -1,0 +1,50 @@
+//! The functions of the library that take blocks out of service and put them back, under the names
+//! that C declares.
+ghost use Rattle.std.specs.Prelude.{◌≡◌, ◌≢◌, ◌⊎◌, None};
+ghost use Rattle.cubejobs_plan.specs.Blocks.{HasBlock, IsInUse, IsNotOut, IsOccupied, IsVacated, block_at};
+ghost use Rattle.cubejobs_plan.specs.Handle.{OnCore, OnCores, core_of};
+
+use crate::codes::{DONE, NOT_OPEN, OUT_OF_RANGE, WRONG_STATE};
+use crate::handle::Handle;
+use crate::serving::{occupy, vacate};
+use cube_shape::Region;
+
+/// Takes a block out of service.
+#[unsafe(no_mangle)]
+pub extern "C" fn cubejobs_plan_occupy(plan: &mut Handle, base: u64, dim: u32) -> u32
+    ensures not_open { core_of plan.old ≡ None → result ≡ NOT_OPEN }
+    ensures out_of_range { OnCore (λ core. HasBlock (block_at base dim) core → ⊥)
+        (core_of plan.old) → result ≡ OUT_OF_RANGE }
+    ensures tried { OnCore (HasBlock (block_at base dim)) (core_of plan.old)
+        → (result ≡ DONE) ⊎ (result ≡ WRONG_STATE) }
+    ensures wrong_state { result ≡ WRONG_STATE
+        → OnCore (IsInUse (block_at base dim)) (core_of plan.old) }
+    ensures occupied { result ≡ DONE
+        → OnCores (IsOccupied (block_at base dim)) (core_of plan.old) (core_of plan.new) }
+    ensures unchanged { result ≢ DONE → plan.new ≡ plan.old }
+{
+    if !plan.is_open() {
+        return NOT_OPEN;
+    }
+    occupy(&mut plan.at.get_mut().scheduler, Region { base, dim })
+}
+
+/// Puts exactly a block that was taken out of service back into it.
+#[unsafe(no_mangle)]
+pub extern "C" fn cubejobs_plan_vacate(plan: &mut Handle, base: u64, dim: u32) -> u32
+    ensures not_open { core_of plan.old ≡ None → result ≡ NOT_OPEN }
+    ensures out_of_range { OnCore (λ core. HasBlock (block_at base dim) core → ⊥)
+        (core_of plan.old) → result ≡ OUT_OF_RANGE }
+    ensures tried { OnCore (HasBlock (block_at base dim)) (core_of plan.old)
+        → (result ≡ DONE) ⊎ (result ≡ WRONG_STATE) }
+    ensures wrong_state { result ≡ WRONG_STATE
+        → OnCore (IsNotOut (block_at base dim)) (core_of plan.old) }
+    ensures vacated { result ≡ DONE
+        → OnCores (IsVacated (block_at base dim)) (core_of plan.old) (core_of plan.new) }
+    ensures unchanged { result ≢ DONE → plan.new ≡ plan.old }
+{
+    if !plan.is_open() {
+        return NOT_OPEN;
+    }
+    vacate(&mut plan.at.get_mut().scheduler, Region { base, dim })
+}

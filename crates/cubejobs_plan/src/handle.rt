@@ -1,0 +1,15 @@
+//! The handle of a planner, which C keeps.
+ghost use Rattle.std.specs.Prelude.{◌≡◌, ◌↔◌, IsSome};
+ghost use Rattle.cubejobs_plan.specs.declared.codes.TheConstants.{OPEN};
+ghost use Rattle.cubejobs_plan.specs.CoreIn.{core_in};
+
+use crate::opaque_ptr::OpaquePtr;
+
+/// A handle of a planner, in memory that the caller keeps. It is open or shut. Only this library
+/// follows the pointer of an open one.
+#[repr(C)]
+pub struct Handle {
+    pub(crate) tag: u64,
+    pub(crate) at: OpaquePtr,
+    ghost open: { tag ≡ OPEN ↔ IsSome (core_in at.content) },
+}
