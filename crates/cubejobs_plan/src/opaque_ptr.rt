@@ -88,4 +88,3 @@ impl OpaquePtr {
         self.into_parts().into_box()
     }
 }
-
