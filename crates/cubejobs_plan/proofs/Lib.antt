@@ -1,3 +1,5 @@
 pub mod AsBox
+mod AskedLemmas
 mod DimLemmas
+mod FewLemmas
 mod PlaceLemmas

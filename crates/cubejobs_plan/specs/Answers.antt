@@ -9,9 +9,9 @@ use Rattle.sched_law.specs.declared.job.SchedWait.{SchedWait}
 use Rattle.sched_law.specs.declared.job.SchedRun.{SchedRun}
 use Rattle.sched_law.specs.State.{Sched}
 use Rattle.sched_law.specs.Policy.{IsLatest}
-use Rattle.sched_jobs.specs.Counts.{WaitsBefore}
 use Rattle.region_bits.specs.Count.{IsCount}
 use Rattle.sched_core.specs.declared.scheduler.Core.{Core}
+use Rattle.sched_core.specs.Answers.{ComesBefore}
 use Rattle.sched_core.specs.Shows.{job_arrival, job_place, job_ticket}
 use Rattle.cubejobs_plan.specs.declared.answer.JobAnswer.{JobAnswer}
 use Rattle.cubejobs_plan.specs.declared.codes.TheConstants.{DONE, RESERVED, RUNS, WAITS}
@@ -59,10 +59,11 @@ SaysPlace w j Absent answer = ⊥
 SaysPlace w j (Waiting wait) answer = HasNumbers wait.job answer × SaysQueued w j wait.job answer
 SaysPlace w j (Running run) answer = HasNumbers run.job answer × SaysRuns run answer
 
--- How many waiting jobs come before job `j` at this place.
+-- How many waiting jobs come before job `j` at this place: the reserved job first, the others in
+-- order.
 abbrev pub IsBefore : Sched → ℕ → Place → ℕ → Type 0
 IsBefore w j Absent count = ⊥
-IsBefore w j (Waiting wait) count = IsCount (WaitsBefore w j wait.job) w.next count
+IsBefore w j (Waiting wait) count = IsCount (ComesBefore w j wait.job) w.next count
 IsBefore w j (Running run) count = count ≡ 0
 
 -- The answer is that of the job in a slot, but for how many come before it.

@@ -1,6 +1,7 @@
 pub mod Answers
 pub mod Blocks
 pub mod CoreIn
+pub mod Counts
 pub mod Handle
 pub mod InnerLending
 pub mod InnerOpaquePtr

@@ -166,7 +166,7 @@ fn before(scheduler: &Scheduler, slot: u32) -> u64
     let Place::Waiting(_) = scheduler.place(slot) else {
         return 0;
     };
-    scheduler.count_before(slot)
+    scheduler.before(slot)
 }
 
 // Returns the answer about the job of a slot.

@@ -1,13 +1,15 @@
-//! The functions of the library that look at jobs, under the names that C declares.
+//! The functions of the library that look at jobs and count, under the names that C declares.
 ghost use Rattle.std.specs.Prelude.{◌≡◌, ◌≢◌, ◌⊎◌, None, IsSome};
 ghost use Rattle.cubejobs_plan.specs.Answers.{SaysNothing};
+ghost use Rattle.cubejobs_plan.specs.Counts.{CountsNothing, HasCounts};
 ghost use Rattle.cubejobs_plan.specs.Handle.{OnCore, core_of};
 ghost use Rattle.cubejobs_plan.specs.Jobs.{HasNoJobWith, IsFound};
 ghost use Rattle.cubejobs_plan.specs.Looks.{HasNoneAfter, IsAfter};
 
-use crate::answer::JobAnswer;
+use crate::answer::{CountsAnswer, JobAnswer};
 use crate::answers::refused;
 use crate::codes::{DONE, NO_JOB, NOT_OPEN};
+use crate::counting::{counts, uncounted};
 use crate::handle::Handle;
 use crate::looking::{after, forecast};
 
@@ -43,4 +45,19 @@ pub extern "C" fn cubejobs_plan_after(plan: &mut Handle, ticket: u64) -> JobAnsw
         return refused(NOT_OPEN);
     }
     after(&plan.at.get_mut().scheduler, ticket)
+}
+
+/// Counts jobs and processors.
+#[unsafe(no_mangle)]
+pub extern "C" fn cubejobs_plan_counts(plan: &mut Handle) -> CountsAnswer
+    ensures not_open { core_of plan.old ≡ None → result.code ≡ NOT_OPEN }
+    ensures done { IsSome (core_of plan.old) → result.code ≡ DONE }
+    ensures counted { result.code ≡ DONE → OnCore (HasCounts result) (core_of plan.old) }
+    ensures nothing { result.code ≢ DONE → CountsNothing result }
+    ensures unchanged { plan.new ≡ plan.old }
+{
+    if !plan.is_open() {
+        return uncounted(NOT_OPEN);
+    }
+    counts(&plan.at.get_mut().scheduler)
 }
