@@ -1,10 +1,24 @@
 """Plays the planner beside a plain model of its rules: `checks/run plan [SEED PLANNERS CALLS]`.
 
 plan_calls.c makes random calls and prints each one with its answer. Here plan_model.py answers the same calls, and each
-line must agree in all its numbers.
+line must agree in all its numbers. It is run as C and as C++, with the compiler's checks of addresses, also of memory
+that is not freed. A model with a fault must be seen. SEED, PLANNERS and CALLS are for a longer run: calls of so many
+planners.
 """
-from checks.built.plan_model import CLASSES, DONE, NO_JOB, Model
+import os
+import shutil
+import subprocess
+import tempfile
 
+from checks.built.plan_model import DONE, NO_JOB, Model
+from checks.lib.repository import path
+from checks.lib.rows import Row, Skipped, answer, must, run_rows
+from checks.lib.toolchain import kit
+
+LIBRARY = "cubejobs_plan"
+STRICT = ["-O1", "-g", "-Wall", "-Wextra", "-Werror", "-pedantic", f"-I{path('include')}"]
+CHECKS = ["-fsanitize=address,undefined", "-fno-sanitize-recover=all"]
+C, CXX = ["gcc", "-std=c11", "-xc"], ["g++", "-std=c++11", "-xc++"]
 OUT_OF_RANGE, NOT_OPEN, ALREADY_OPEN, BAD_VERSION = 45, 12, 14, 15
 SLOTS = 2**24
 # The bytes of the fixed parts, of a node of a machine and of a job.
@@ -16,10 +30,9 @@ VERSION = 1
 class Replay:
     """Answers the calls of one planner after another, and knows the ticket of each job."""
 
-    def __init__(self):
-        self.model = None
+    def __init__(self, rules=Model):
+        self.rules, self.model = rules, None
         self.arrivals, self.tickets = {}, {}
-        self.calls = {}
 
     def job(self, answered):
         """Returns the numbers of an answer about a job, from the model's code and tuple."""
@@ -42,7 +55,7 @@ class Replay:
             return [ALREADY_OPEN]
         if self.y([dim, jobs, patience, flags], None) == [0] or memory:
             return [OUT_OF_RANGE]
-        self.model = Model(dim, jobs, patience)
+        self.model = self.rules(dim, jobs, patience)
         self.arrivals, self.tickets = {}, {}
         return [DONE]
 
@@ -58,8 +71,8 @@ class Replay:
             return [code, *NOTHING]
         ticket = answered[2]
         live = {self.tickets[arrival] % SLOTS for arrival in self.model.jobs if arrival != job.arrival}
-        assert ticket and ticket not in self.arrivals and ticket % SLOTS not in live, "the ticket is no new one"
-        assert ticket % SLOTS < self.model.most, "there is no such slot"
+        must(ticket and ticket not in self.arrivals and ticket % SLOTS not in live, f"{ticket} is no new ticket")
+        must(ticket % SLOTS < self.model.most, f"there is no slot of the ticket {ticket}")
         self.arrivals[ticket], self.tickets[job.arrival] = job.arrival, ticket
         return self.job(self.model.forecast(job.arrival))
 
@@ -100,14 +113,124 @@ class Replay:
 
     def line(self, line):
         """Answers the call of a line. Returns what is wrong, or None."""
-        call, _, answer = line.partition(" = ")
-        if line[1] == " " and call.endswith(" ="):
-            call = call[:-2]
-        name, *numbers = call.split()
-        numbers, answered = [int(it) for it in numbers], [int(it) for it in answer.split()]
+        call, _, said = line.partition(" = ")
+        name, *words = call.split()
+        numbers, answered = [int(it) for it in words], [int(it) for it in said.split()]
         if self.model or name in "oy":
             right = getattr(self, name)(numbers, answered)
         else:
             right = [NOT_OPEN, *[0] * (len(answered) - 1)]
-        self.calls[name, answered[0] if name != "y" else 0] = self.calls.get((name, answered[0]), 0) + 1
         return None if right == answered else f"{line}\n  the model answers {' '.join(map(str, right))}"
+
+
+# ---- models with a fault, each of which must be seen
+
+
+class IgnoresClasses(Model):
+    def waiting(self):
+        return sorted((job for job in self.jobs.values() if job.base is None), key=lambda job: job.arrival)
+
+
+class ForgetsTheReservation(Model):
+    def first(self, dim, apart=None):
+        return super().first(dim)
+
+
+class WaitsForNoPromise(Model):
+    def place_beside(self, job, head):
+        apart = (self.reserved[1], 2**head.dim) if self.reserved else None
+        return self.first(job.dim, apart)
+
+
+class IsNeverPatient(Model):
+    def __init__(self, dim, most, patience):
+        super().__init__(dim, most, 0)
+
+
+class ReservesTheFirst(Model):
+    def choose(self, dim):
+        return next(base for base in self.blocks(dim) if self.is_usable(base, dim))
+
+
+class IgnoresWhatIsBusy(Model):
+    def busy(self, base, dim):
+        return 0
+
+
+class KeepsTheReservation(Model):
+    def occupy(self, base, dim):
+        kept = self.reserved
+        code = super().occupy(base, dim)
+        self.reserved = kept if self.reserved or kept and self.is_usable(kept[1], 0) else self.reserved
+        return code
+
+
+class EndsLater(Model):
+    def start(self, job, base):
+        super().start(job, base)
+        job.end += job.end < 2**64 - 2
+        return job
+
+
+FAULTS = (IgnoresClasses, ForgetsTheReservation, WaitsForNoPromise, IsNeverPatient, ReservesTheFirst, IgnoresWhatIsBusy,
+          KeepsTheReservation, EndsLater)
+
+# ---- runs
+
+
+def built(room, compiler):
+    """Compiles the program over the library. Returns its path."""
+    if not shutil.which(compiler[0]):
+        raise Skipped(f"no {compiler[0]} here")
+    library, out = path("crates", LIBRARY, "out", f"lib{LIBRARY}.a"), f"{room}/plan_calls"
+    if not os.path.exists(library):
+        subprocess.run([path("checks", "run"), "static", LIBRARY], check=True)
+    words = [*compiler, *STRICT, path("checks", "built", "plan_calls.c"), "-xnone", library]
+    status, _, said = answer([*words, f"{kit().KIT}/c/liblibc_c.a", "-o", out], timeout=300)
+    must(status == 0, said.decode(errors="replace"))
+    return out
+
+
+def calls(program, words):
+    """Yields the calls that a run of the program prints, without the ends of their lines. It must end well."""
+    with subprocess.Popen([program, *words], stdout=subprocess.PIPE, text=True) as ran:
+        for line in ran.stdout:
+            yield line.rstrip("\n")
+    must(ran.returncode == 0, f"status {ran.returncode}")
+
+
+def must_agree(room, compiler, words):
+    """Sees that the library and the model answer each call alike."""
+    replay, count = Replay(), 0
+    for line in calls(built(room, compiler), words):
+        wrong = replay.line(line)
+        must(not wrong, f"call {count}: {wrong}")
+        count += 1
+    return f"{count:,} calls"
+
+
+def must_differ(room, rules):
+    """Sees that a model with a fault answers a call otherwise."""
+    replay = Replay(rules)
+    lines = list(calls(built(room, C), ["5", "300", "100"]))
+    must(any(differs(replay, line) for line in lines), "no call differs")
+
+
+def differs(replay, line):
+    """Returns whether a model answers a call otherwise. A state that the rules exclude is a difference, too."""
+    try:
+        return replay.line(line)
+    except (IndexError, KeyError, StopIteration, ValueError):
+        return True
+
+
+def rows(room, words):
+    yield Row("random calls", must_agree, (room, [*C, *CHECKS], words or ["1", "400", "120"]))
+    yield Row("random calls by C++", must_agree, (room, [*CXX, *CHECKS], ["2", "100", "120"]))
+    for rules in FAULTS:
+        yield Row(f"a model that {rules.__name__}", must_differ, (room, rules))
+
+
+def main(words):
+    with tempfile.TemporaryDirectory() as room:
+        return run_rows("plan", rows(room, words))
