@@ -111,9 +111,9 @@ struct cubejobs_plan_request {
  *   - state: where the job is, or where it was before it was cancelled or ended;
  *   - payload, processors, job_class: as the job was submitted;
  *   - base, dim, time: if it runs, its block and its estimated end, even if that has passed. If it
- *     is reserved, the reserved block and the promise: the latest end of the jobs in the block, or 0
- *     if none is. If it waits, base is 0, dim is that of the block that it needs, and time is
- *     CUBEJOBS_PLAN_NEVER. An end or a promise that is not known is CUBEJOBS_PLAN_NEVER too;
+ *     is reserved, the reserved block and the promise: the latest end of the jobs in the block, or
+ *     0 if none is there. If it waits, base is 0, dim is that of the block that it needs, and time
+ *     is CUBEJOBS_PLAN_NEVER. An end or a promise that is not known is CUBEJOBS_PLAN_NEVER too;
  *   - before: how many waiting jobs come before it. It is 0 for a job that runs or is reserved;
  *   - arrival: how many jobs were submitted before it. */
 struct cubejobs_plan_job {

@@ -2,7 +2,7 @@
 
 plan_calls.c makes random calls and prints each one with its answer. Here plan_model.py answers the same calls, and each
 line must agree in all its numbers. It is run as C and as C++, with the compiler's checks of addresses, also of memory
-that is not freed. A model with a fault must be seen. SEED, PLANNERS and CALLS are for a longer run: calls of so many
+that is not freed. A model with a fault must be seen, and the example shows what it must. SEED, PLANNERS and CALLS are for a longer run: calls of so many
 planners.
 """
 import os
@@ -11,7 +11,7 @@ import subprocess
 import tempfile
 
 from checks.built.plan_model import DONE, NO_JOB, Model
-from checks.lib.repository import path
+from checks.lib.repository import path, read
 from checks.lib.rows import Row, Skipped, answer, must, run_rows
 from checks.lib.toolchain import kit
 
@@ -22,7 +22,7 @@ C, CXX = ["gcc", "-std=c11", "-xc"], ["g++", "-std=c++11", "-xc++"]
 OUT_OF_RANGE, NOT_OPEN, ALREADY_OPEN, BAD_VERSION = 45, 12, 14, 15
 SLOTS = 2**24
 # The bytes of the fixed parts, of a node of a machine and of a job.
-BYTES = 4096, 14, 96
+BYTES = 4000, 14, 96
 NOTHING = [0] * 10
 VERSION = 1
 
@@ -178,14 +178,14 @@ FAULTS = (IgnoresClasses, ForgetsTheReservation, WaitsForNoPromise, IsNeverPatie
 # ---- runs
 
 
-def built(room, compiler):
-    """Compiles the program over the library. Returns its path."""
+def built(room, compiler, source="checks/built/plan_calls.c"):
+    """Compiles a program over the library. Returns its path."""
     if not shutil.which(compiler[0]):
         raise Skipped(f"no {compiler[0]} here")
-    library, out = path("crates", LIBRARY, "out", f"lib{LIBRARY}.a"), f"{room}/plan_calls"
+    library, out = path("crates", LIBRARY, "out", f"lib{LIBRARY}.a"), f"{room}/program"
     if not os.path.exists(library):
         subprocess.run([path("checks", "run"), "static", LIBRARY], check=True)
-    words = [*compiler, *STRICT, path("checks", "built", "plan_calls.c"), "-xnone", library]
+    words = [*compiler, *STRICT, path(source), "-xnone", library]
     status, _, said = answer([*words, f"{kit().KIT}/c/liblibc_c.a", "-o", out], timeout=300)
     must(status == 0, said.decode(errors="replace"))
     return out
@@ -209,6 +209,12 @@ def must_agree(room, compiler, words):
     return f"{count:,} calls"
 
 
+def must_show(room):
+    """Sees that the example shows what its file has."""
+    shown = "".join(f"{line}\n" for line in calls(built(room, [*C, *CHECKS], "examples/plan.c"), []))
+    must(shown == read("examples/plan.out"), f"it shows {shown!r}")
+
+
 def must_differ(room, rules):
     """Sees that a model with a fault answers a call otherwise."""
     replay = Replay(rules)
@@ -227,6 +233,7 @@ def differs(replay, line):
 def rows(room, words):
     yield Row("random calls", must_agree, (room, [*C, *CHECKS], words or ["1", "400", "120"]))
     yield Row("random calls by C++", must_agree, (room, [*CXX, *CHECKS], ["2", "100", "120"]))
+    yield Row("examples/plan.c", must_show, (room,))
     for rules in FAULTS:
         yield Row(f"a model that {rules.__name__}", must_differ, (room, rules))
 

@@ -22,7 +22,7 @@ OTHERS = (
     (r"cli_args/src/command_line\.rt", r"  105 bytes, and 16 for each item", "the bytes of a scan"),
     (r"cli_args/", r'default_value\("16"\)|codes "16"', "the room of a line where no word says it"),
     (r"uses/src/(answering|whole)\.rt", r"capacity: 16", "the room of this caller's line"),
-    (r"cubejobs_(dispatch|regions)/src/codes\.rt", r"[A-Z_]+: u32 = \d+;", "the code of an answer"),
+    (r"cubejobs_(dispatch|plan|regions)/src/codes\.rt", r"[A-Z_]+: u32 = \d+;", "the code of an answer"),
     (r"\w+/proofs/", r"search \(.*\) depth 20", "how deep a search goes"),
     (r"cli_commands/src/progress\.rt", r"PAUSE: u64 = 20", "the pause of the line of progress"),
     (r"cube_bench/src/rounds\.rt", r"MAX_DIM: u32 = 20", "the largest job that is measured"),
@@ -39,6 +39,7 @@ OTHERS = (
 WRITTEN = (
     ("include/cubejobs_fit.h", r"#define CUBEJOBS_FIT_MAX_DIM (\d+)", "MAX_BITMAP_DIM"),
     ("include/cubejobs_fit.h", r"free blocks of the dimensions 0 to (\d+)", "MAX_BITMAP_DIM"),
+    ("include/cubejobs_plan.h", r"#define CUBEJOBS_PLAN_MAX_DIM (\d+)", "MAX_BITMAP_DIM"),
     ("include/cubejobs_regions.h", r"#define CUBEJOBS_REGIONS_MAX_DIM (\d+)", "MAX_BITMAP_DIM"),
     ("include/cubejobs_dispatch.h", r"#define CUBEJOBS_LANES_MAX_LANES (\d+)", "job_lanes::MAX_LANES"),
     ("include/cubejobs_dispatch.h", r"#define CUBEJOBS_LANES_MAX_WORKERS (\d+)", "MAX_WORKERS"),

@@ -22,7 +22,7 @@ ALLOWED = {
     "Entry": ("job_queue tree_steps", "a lane's entry into a line, and a station's member of a seat"),
     "Finished": ("dispatcher uses", "what is known at the end: of a shop, of a run over a line alone"),
     "FreeMachine": ("cube_tree floor_bitmap floor_locked", "what a close gives; callers of floors see F::Machine"),
-    "Handle": ("cubejobs_dispatch cubejobs_regions", "what a caller in C keeps; each library has one of its own"),
+    "Handle": ("cubejobs_dispatch cubejobs_plan cubejobs_regions", "what a caller in C keeps; each library has one of its own"),
     "Kind": ("cube_core job_types", "of an event, and of a collective; a caller of jobs sees no event"),
     "Lane": ("job_lanes", "the producer's handle of a lane of jobs; at a queue it is that of a line"),
     "LaneRecord": ("job_lanes job_queue line_ring", "what a lane has done: of jobs, at a line and at its ring"),

@@ -8,7 +8,7 @@ use Rattle.sched_jobs.specs.Counts.{DoesRun, DoesWait}
 use Rattle.sched_jobs.specs.Sums.{asked}
 use Rattle.sched_core.specs.declared.scheduler.Core.{Core}
 use Rattle.sched_core.specs.Shows.{ShowsCore}
-use Rattle.cubejobs_plan.specs.declared.answer.CountsAnswer.{CountsAnswer}
+use Rattle.cubejobs_plan.specs.declared.answer.PlanCounts.{PlanCounts}
 
 -- No block of a dimension is vacant exactly if the dimension is above this one.
 abbrev pub IsLargestDim : Sched → ℕ → Type 0
@@ -21,7 +21,7 @@ IsLargest w count =
     ⊎ ((largest : ℕ) × (count ≡ 2 ^ largest) × (largest ≤ w.dim) × IsLargestDim w largest)
 
 -- The answer has the counts of the state.
-pub record IsCounted (w : Sched) (answer : CountsAnswer) : Type 0 where
+pub record IsCounted (w : Sched) (answer : PlanCounts) : Type 0 where
   pub waiting : IsCount (DoesWait w) w.next answer.waiting
   pub running : IsCount (DoesRun w) w.next answer.running
   pub held : IsCount (IsHeld (held w)) (2 ^ w.dim) answer.held
@@ -30,7 +30,7 @@ pub record IsCounted (w : Sched) (answer : CountsAnswer) : Type 0 where
   pub largest : IsLargest w answer.largest
 
 -- The answer counts nothing: all but the code is 0.
-pub record CountsNothing (answer : CountsAnswer) : Type 0 where
+pub record CountsNothing (answer : PlanCounts) : Type 0 where
   pub waiting : answer.waiting ≡ 0
   pub running : answer.running ≡ 0
   pub held : answer.held ≡ 0
@@ -39,5 +39,5 @@ pub record CountsNothing (answer : CountsAnswer) : Type 0 where
   pub largest : answer.largest ≡ 0
 
 -- The answer has the counts of each state that the scheduler shows.
-abbrev pub HasCounts : CountsAnswer → Core → Type 0
+abbrev pub HasCounts : PlanCounts → Core → Type 0
 HasCounts answer core = (w : Sched) → ShowsCore w core → IsCounted w answer

@@ -10,9 +10,9 @@ use Rattle.sched_law.specs.Law.{IsSound}
 use Rattle.sched_law.specs.Policy.{Decides}
 use Rattle.sched_jobs.specs.declared.lines.TheConstants.{CLASSES}
 use Rattle.sched_core.specs.declared.scheduler.Core.{Core}
-use Rattle.sched_core.specs.Shows.{IsSpent, IsTaken, KeepsGenerations, KeepsOthers, KeepsSlots, ShowsCore, job_arrival, job_generation, job_place, job_ticket, slots_of, submitted_of}
-use Rattle.cubejobs_plan.specs.declared.answer.JobAnswer.{JobAnswer}
-use Rattle.cubejobs_plan.specs.declared.request.Request.{Request}
+use Rattle.sched_core.specs.Shows.{IsSpent, IsTaken, KeepsGenerations, KeepsOthers, KeepsSlots, ShowsCore, dim_of, job_arrival, job_generation, job_place, job_ticket, slots_of, submitted_of}
+use Rattle.cubejobs_plan.specs.declared.answer.PlanJob.{PlanJob}
+use Rattle.cubejobs_plan.specs.declared.request.PlanRequest.{PlanRequest}
 use Rattle.cubejobs_plan.specs.Answers.{IsAnswer}
 
 -- ---- tickets
@@ -40,13 +40,13 @@ HasRunningWith ticket core =
 -- ---- submit
 
 -- A machine of this dimension can have a job as it is asked for.
-pub record IsAskable (n : ℕ) (request : Request) : Type 0 where
+pub record IsAskable (n : ℕ) (request : PlanRequest) : Type 0 where
   pub some : 0 < request.processors
   pub fits : request.processors ≤ 2 ^ n
   pub class : request.job_class < CLASSES
 
 -- The job is the one that is asked for.
-pub record IsAsked (request : Request) (job : SchedJob) : Type 0 where
+pub record IsAsked (request : PlanRequest) (job : SchedJob) : Type 0 where
   pub payload : job.payload ≡ request.payload
   pub processors : job.processors ≡ request.processors
   pub class : job.class ≡ request.job_class
@@ -59,8 +59,12 @@ IsFull core =
     (submitted_of core ≡ NEVER)
     ⊎ ((slot : ℕ) → slot < slots_of core → IsTaken core slot ⊎ IsSpent core slot)
 
+-- The job can be had, and there is no room for it.
+abbrev pub IsRefused : PlanRequest → Core → Type 0
+IsRefused request core = IsAskable (dim_of core) request × IsFull core
+
 -- The job that was asked for waits in a slot that had none, and the answer is its.
-pub record IsSubmitted (request : Request) (answer : JobAnswer) (old new : Core) : Type 0 where
+pub record IsSubmitted (request : PlanRequest) (answer : PlanJob) (old new : Core) : Type 0 where
   pub slot : ℕ
   pub job : SchedJob
   pub asked : IsAsked request job
@@ -77,7 +81,7 @@ pub record IsSubmitted (request : Request) (answer : JobAnswer) (old new : Core)
 -- ---- cancel and finish
 
 -- The job with this ticket is over, and the answer says where it was. All other jobs stay.
-pub record IsOver (ticket : ℕ) (answer : JobAnswer) (end : ℕ → Sched → Sched) (old new : Core) : Type 0 where
+pub record IsOver (ticket : ℕ) (answer : PlanJob) (end : ℕ → Sched → Sched) (old new : Core) : Type 0 where
   pub slot : ℕ
   pub job : IsJobWith ticket old slot
   pub tells : (w : Sched) → ShowsCore w old → IsAnswer w old slot answer
@@ -87,17 +91,17 @@ pub record IsOver (ticket : ℕ) (answer : JobAnswer) (end : ℕ → Sched → S
   pub others : KeepsOthers old new slot
 
 -- The job waited, and was taken back.
-abbrev pub IsCancelled : ℕ → JobAnswer → Core → Core → Type 0
+abbrev pub IsCancelled : ℕ → PlanJob → Core → Core → Type 0
 IsCancelled ticket answer old new = HasWaitingWith ticket old × IsOver ticket answer cancel old new
 
 -- The job ran, and has ended.
-abbrev pub IsFinished : ℕ → JobAnswer → Core → Core → Type 0
+abbrev pub IsFinished : ℕ → PlanJob → Core → Core → Type 0
 IsFinished ticket answer old new = HasRunningWith ticket old × IsOver ticket answer finish old new
 
 -- ---- next
 
 -- The job in a slot starts at this time by the decision, and the answer is its.
-pub record IsStarted (now : ℕ) (answer : JobAnswer) (old new : Core) : Type 0 where
+pub record IsStarted (now : ℕ) (answer : PlanJob) (old new : Core) : Type 0 where
   pub slot : ℕ
   pub inside : slot < slots_of new
   pub runs : (run : SchedRun) × (job_place new slot ≡ Running run)
@@ -116,6 +120,6 @@ pub record IsAtRest (now : ℕ) (old new : Core) : Type 0 where
 -- ---- looks
 
 -- The answer is that of the job with this ticket.
-abbrev pub IsFound : ℕ → JobAnswer → Core → Type 0
+abbrev pub IsFound : ℕ → PlanJob → Core → Type 0
 IsFound ticket answer core =
     (slot : ℕ) × IsJobWith ticket core slot × ((w : Sched) → ShowsCore w core → IsAnswer w core slot answer)

@@ -3,7 +3,7 @@
 /// A job, as a call about it answers. All is 0 unless the code is `DONE`.
 #[repr(C)]
 #[derive(Clone, Copy, Debug)]
-pub struct JobAnswer {
+pub struct PlanJob {
     /// `DONE`, or why the call was refused.
     pub code: u32,
     /// Where the job is: `WAITS`, `RESERVED` or `RUNS`.
@@ -31,7 +31,7 @@ pub struct JobAnswer {
 /// What a planner has. All is 0 unless the code is `DONE`.
 #[repr(C)]
 #[derive(Clone, Copy, Debug)]
-pub struct CountsAnswer {
+pub struct PlanCounts {
     /// `DONE`, or why the call was refused.
     pub code: u32,
     /// How many jobs wait.

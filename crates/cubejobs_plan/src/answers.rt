@@ -6,8 +6,9 @@ ghost use Rattle.sched_core.specs.Shows.{IsTaken, ShowsCore, job_arrival, job_pl
 ghost use Rattle.sched_core.specs.Answers.{IsWaitForecast};
 ghost use Rattle.cubejobs_plan.specs.Answers.{HasNumbers, IsAnswer, IsBefore, IsListed, SaysNothing, SaysQueued, SaysRuns};
 
-use crate::answer::JobAnswer;
-use crate::codes::{DONE, RESERVED, RUNS, WAITS};
+use crate::answer::PlanJob;
+use crate::codes::DONE;
+use crate::states::{RESERVED, RUNS, WAITS};
 use sched_core::{Forecast, NEVER, Place, SchedJob, SchedRun, Scheduler};
 
 // The names of a job, and how many waiting jobs come before it.
@@ -28,11 +29,11 @@ struct Spot {
 }
 
 // Makes the answer of a refused call.
-pub(crate) fn refused(code: u32) -> JobAnswer
+pub(crate) fn refused(code: u32) -> PlanJob
     ensures code { result.code ≡ code }
     ensures nothing { SaysNothing result }
 {
-    JobAnswer {
+    PlanJob {
         code,
         state: 0,
         ticket: 0,
@@ -48,7 +49,7 @@ pub(crate) fn refused(code: u32) -> JobAnswer
 }
 
 // Makes the answer about a job at a spot.
-fn answer_of(names: Names, job: SchedJob, spot: Spot) -> JobAnswer
+fn answer_of(names: Names, job: SchedJob, spot: Spot) -> PlanJob
     ensures code { result.code ≡ DONE }
     ensures ticket { result.ticket ≡ names.ticket }
     ensures arrival { result.arrival ≡ names.arrival }
@@ -59,7 +60,7 @@ fn answer_of(names: Names, job: SchedJob, spot: Spot) -> JobAnswer
     ensures time { result.time ≡ spot.time }
     ensures before { result.before ≡ names.before }
 {
-    JobAnswer {
+    PlanJob {
         code: DONE,
         state: spot.state,
         ticket: names.ticket,
@@ -75,7 +76,7 @@ fn answer_of(names: Names, job: SchedJob, spot: Spot) -> JobAnswer
 }
 
 // Makes the answer about a running job.
-fn running(names: Names, run: SchedRun) -> JobAnswer
+fn running(names: Names, run: SchedRun) -> PlanJob
     ensures code { result.code ≡ DONE }
     ensures ticket { result.ticket ≡ names.ticket }
     ensures arrival { result.arrival ≡ names.arrival }
@@ -93,7 +94,7 @@ fn running(names: Names, run: SchedRun) -> JobAnswer
 }
 
 // Makes the answer about a waiting job with this forecast.
-fn waiting(names: Names, job: SchedJob, forecast: Forecast) -> JobAnswer
+fn waiting(names: Names, job: SchedJob, forecast: Forecast) -> PlanJob
     ensures code { result.code ≡ DONE }
     ensures ticket { result.ticket ≡ names.ticket }
     ensures arrival { result.arrival ≡ names.arrival }
@@ -121,7 +122,7 @@ fn waiting(names: Names, job: SchedJob, forecast: Forecast) -> JobAnswer
 }
 
 // Returns the answer about the job of a slot, with this number of jobs before it.
-fn described(scheduler: &Scheduler, slot: u32, before: u64) -> JobAnswer
+fn described(scheduler: &Scheduler, slot: u32, before: u64) -> PlanJob
     requires inside { slot < slots_of scheduler.now }
     requires job { IsTaken scheduler.now slot }
     ensures code { result.code ≡ DONE }
@@ -144,8 +145,8 @@ fn described(scheduler: &Scheduler, slot: u32, before: u64) -> JobAnswer
     waiting(names, wait.job, scheduler.forecast(slot))
 }
 
-// Returns the answer about the job of a slot, but for how many come before it.
-pub(crate) fn listed(scheduler: &Scheduler, slot: u32) -> JobAnswer
+// Returns the answer about the job of a slot, except how many come before it.
+pub(crate) fn listed(scheduler: &Scheduler, slot: u32) -> PlanJob
     requires inside { slot < slots_of scheduler.now }
     requires job { IsTaken scheduler.now slot }
     ensures code { result.code ≡ DONE }
@@ -170,7 +171,7 @@ fn before(scheduler: &Scheduler, slot: u32) -> u64
 }
 
 // Returns the answer about the job of a slot.
-pub(crate) fn answer_at(scheduler: &Scheduler, slot: u32) -> JobAnswer
+pub(crate) fn answer_at(scheduler: &Scheduler, slot: u32) -> PlanJob
     requires inside { slot < slots_of scheduler.now }
     requires job { IsTaken scheduler.now slot }
     ensures code { result.code ≡ DONE }

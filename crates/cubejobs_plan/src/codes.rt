@@ -1,4 +1,4 @@
-//! The codes of the answers, the states of jobs, the version of the header, and the tag of a handle.
+//! The codes of the answers, the version of the header, and the tag of a handle.
 
 /// The version of the header that this library is for. Any change of its structs or functions gets
 /// another version.
@@ -36,12 +36,3 @@ pub const WRONG_STATE: u32 = 47;
 
 /// The time is before that of the last decision.
 pub const TIME_BACK: u32 = 48;
-
-/// The job waits, and no block is reserved for it.
-pub const WAITS: u32 = 1;
-
-/// The job waits, and a block is reserved for it.
-pub const RESERVED: u32 = 2;
-
-/// The job runs.
-pub const RUNS: u32 = 3;

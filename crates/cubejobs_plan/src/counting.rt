@@ -9,16 +9,16 @@ ghost use Rattle.sched_jobs.specs.Sums.{asked as asked_in};
 ghost use Rattle.sched_core.specs.Shows.{ShowsCore};
 ghost use Rattle.cubejobs_plan.specs.Counts.{IsCounted, IsLargest, CountsNothing};
 
-use crate::answer::CountsAnswer;
+use crate::answer::PlanCounts;
 use crate::codes::DONE;
 use sched_core::Scheduler;
 
 // Makes the answer of a refused call.
-pub(crate) fn uncounted(code: u32) -> CountsAnswer
+pub(crate) fn uncounted(code: u32) -> PlanCounts
     ensures code { result.code ≡ code }
     ensures nothing { CountsNothing result }
 {
-    CountsAnswer {
+    PlanCounts {
         code,
         waiting: 0,
         running: 0,
@@ -65,11 +65,11 @@ fn largest(scheduler: &Scheduler) -> u32
 }
 
 /// Counts what a scheduler has.
-pub(crate) fn counts(scheduler: &Scheduler) -> CountsAnswer
+pub(crate) fn counts(scheduler: &Scheduler) -> PlanCounts
     ensures code { result.code ≡ DONE }
     ensures counted { (w : Sched) → ShowsCore w scheduler.now → IsCounted w result }
 {
-    CountsAnswer {
+    PlanCounts {
         code: DONE,
         waiting: waiting(scheduler),
         running: running(scheduler),

@@ -4,7 +4,7 @@ ghost use Rattle.cubejobs_plan.specs.Answers.{SaysNothing};
 ghost use Rattle.cubejobs_plan.specs.Handle.{OnCore, OnCores, core_of};
 ghost use Rattle.cubejobs_plan.specs.Jobs.{HasNoJobWith, HasRunningWith, HasWaitingWith, IsCancelled, IsFinished};
 
-use crate::answer::JobAnswer;
+use crate::answer::PlanJob;
 use crate::answers::refused;
 use crate::codes::{DONE, NO_JOB, NOT_OPEN, WRONG_STATE};
 use crate::ending::{cancel, finish};
@@ -12,7 +12,7 @@ use crate::handle::Handle;
 
 /// Takes a job back that waits.
 #[unsafe(no_mangle)]
-pub extern "C" fn cubejobs_plan_cancel(plan: &mut Handle, ticket: u64) -> JobAnswer
+pub extern "C" fn cubejobs_plan_cancel(plan: &mut Handle, ticket: u64) -> PlanJob
     ensures not_open { core_of plan.old ≡ None → result.code ≡ NOT_OPEN }
     ensures codes { IsSome (core_of plan.old)
         → (result.code ≡ DONE) ⊎ (result.code ≡ NO_JOB) ⊎ (result.code ≡ WRONG_STATE) }
@@ -32,7 +32,7 @@ pub extern "C" fn cubejobs_plan_cancel(plan: &mut Handle, ticket: u64) -> JobAns
 
 /// Says that a job that ran has ended.
 #[unsafe(no_mangle)]
-pub extern "C" fn cubejobs_plan_finish(plan: &mut Handle, ticket: u64) -> JobAnswer
+pub extern "C" fn cubejobs_plan_finish(plan: &mut Handle, ticket: u64) -> PlanJob
     ensures not_open { core_of plan.old ≡ None → result.code ≡ NOT_OPEN }
     ensures codes { IsSome (core_of plan.old)
         → (result.code ≡ DONE) ⊎ (result.code ≡ NO_JOB) ⊎ (result.code ≡ WRONG_STATE) }

@@ -4,13 +4,13 @@ ghost use Rattle.std.specs.Prelude.{◌≡◌, ◌≢◌, ◌⊎◌};
 ghost use Rattle.cubejobs_plan.specs.Answers.{SaysNothing};
 ghost use Rattle.cubejobs_plan.specs.Jobs.{HasNoJobWith, HasRunningWith, HasWaitingWith, IsCancelled, IsFinished};
 
-use crate::answer::JobAnswer;
+use crate::answer::PlanJob;
 use crate::answers::{answer_at, refused};
 use crate::codes::{DONE, NO_JOB, WRONG_STATE};
 use sched_core::{Place, Scheduler};
 
 /// Takes a job back that waits.
-pub(crate) fn cancel(scheduler: &mut Scheduler, ticket: u64) -> JobAnswer
+pub(crate) fn cancel(scheduler: &mut Scheduler, ticket: u64) -> PlanJob
     ensures codes { (result.code ≡ DONE) ⊎ (result.code ≡ NO_JOB) ⊎ (result.code ≡ WRONG_STATE) }
     ensures no_job { result.code ≡ NO_JOB → HasNoJobWith ticket scheduler.old }
     ensures wrong_state { result.code ≡ WRONG_STATE → HasRunningWith ticket scheduler.old }
@@ -31,7 +31,7 @@ pub(crate) fn cancel(scheduler: &mut Scheduler, ticket: u64) -> JobAnswer
 }
 
 /// Says that a job that ran has ended.
-pub(crate) fn finish(scheduler: &mut Scheduler, ticket: u64) -> JobAnswer
+pub(crate) fn finish(scheduler: &mut Scheduler, ticket: u64) -> PlanJob
     ensures codes { (result.code ≡ DONE) ⊎ (result.code ≡ NO_JOB) ⊎ (result.code ≡ WRONG_STATE) }
     ensures no_job { result.code ≡ NO_JOB → HasNoJobWith ticket scheduler.old }
     ensures wrong_state { result.code ≡ WRONG_STATE → HasWaitingWith ticket scheduler.old }

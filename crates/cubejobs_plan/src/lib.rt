@@ -24,9 +24,10 @@ mod planner;
 mod request;
 mod serving;
 mod starting;
+mod states;
 mod submitting;
 
-pub use answer::{CountsAnswer, JobAnswer};
+pub use answer::{PlanCounts, PlanJob};
 pub use block_exports::{cubejobs_plan_occupy, cubejobs_plan_vacate};
 pub use codes::{DONE, OPEN, VERSION};
 pub use end_exports::{cubejobs_plan_cancel, cubejobs_plan_finish};
@@ -36,4 +37,4 @@ pub use look_exports::{cubejobs_plan_after, cubejobs_plan_counts, cubejobs_plan_
 pub use next_exports::cubejobs_plan_next;
 pub use open_exports::{cubejobs_plan_bytes, cubejobs_plan_close, cubejobs_plan_open_version};
 pub use options::Options;
-pub use request::Request;
+pub use request::PlanRequest;

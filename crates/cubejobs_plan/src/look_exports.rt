@@ -6,7 +6,7 @@ ghost use Rattle.cubejobs_plan.specs.Handle.{OnCore, core_of};
 ghost use Rattle.cubejobs_plan.specs.Jobs.{HasNoJobWith, IsFound};
 ghost use Rattle.cubejobs_plan.specs.Looks.{HasNoneAfter, IsAfter};
 
-use crate::answer::{CountsAnswer, JobAnswer};
+use crate::answer::{PlanCounts, PlanJob};
 use crate::answers::refused;
 use crate::codes::{DONE, NO_JOB, NOT_OPEN};
 use crate::counting::{counts, uncounted};
@@ -15,7 +15,7 @@ use crate::looking::{after, forecast};
 
 /// Says where a job is.
 #[unsafe(no_mangle)]
-pub extern "C" fn cubejobs_plan_forecast(plan: &mut Handle, ticket: u64) -> JobAnswer
+pub extern "C" fn cubejobs_plan_forecast(plan: &mut Handle, ticket: u64) -> PlanJob
     ensures not_open { core_of plan.old ≡ None → result.code ≡ NOT_OPEN }
     ensures codes { IsSome (core_of plan.old)
         → (result.code ≡ DONE) ⊎ (result.code ≡ NO_JOB) }
@@ -32,7 +32,7 @@ pub extern "C" fn cubejobs_plan_forecast(plan: &mut Handle, ticket: u64) -> JobA
 
 /// Returns the first job in a slot after that of a ticket.
 #[unsafe(no_mangle)]
-pub extern "C" fn cubejobs_plan_after(plan: &mut Handle, ticket: u64) -> JobAnswer
+pub extern "C" fn cubejobs_plan_after(plan: &mut Handle, ticket: u64) -> PlanJob
     ensures not_open { core_of plan.old ≡ None → result.code ≡ NOT_OPEN }
     ensures codes { IsSome (core_of plan.old)
         → (result.code ≡ DONE) ⊎ (result.code ≡ NO_JOB) }
@@ -49,7 +49,7 @@ pub extern "C" fn cubejobs_plan_after(plan: &mut Handle, ticket: u64) -> JobAnsw
 
 /// Counts jobs and processors.
 #[unsafe(no_mangle)]
-pub extern "C" fn cubejobs_plan_counts(plan: &mut Handle) -> CountsAnswer
+pub extern "C" fn cubejobs_plan_counts(plan: &mut Handle) -> PlanCounts
     ensures not_open { core_of plan.old ≡ None → result.code ≡ NOT_OPEN }
     ensures done { IsSome (core_of plan.old) → result.code ≡ DONE }
     ensures counted { result.code ≡ DONE → OnCore (HasCounts result) (core_of plan.old) }

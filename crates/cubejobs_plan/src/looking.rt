@@ -5,13 +5,13 @@ ghost use Rattle.cubejobs_plan.specs.Answers.{SaysNothing};
 ghost use Rattle.cubejobs_plan.specs.Jobs.{HasNoJobWith, IsFound};
 ghost use Rattle.cubejobs_plan.specs.Looks.{HasNoneAfter, IsAfter, slot_after};
 
-use crate::answer::JobAnswer;
+use crate::answer::PlanJob;
 use crate::answers::{answer_at, listed, refused};
 use crate::codes::{DONE, NO_JOB};
 use sched_core::{MAX_SLOTS, Scheduler};
 
 /// Says where a job is.
-pub(crate) fn forecast(scheduler: &Scheduler, ticket: u64) -> JobAnswer
+pub(crate) fn forecast(scheduler: &Scheduler, ticket: u64) -> PlanJob
     ensures codes { (result.code ≡ DONE) ⊎ (result.code ≡ NO_JOB) }
     ensures no_job { result.code ≡ NO_JOB → HasNoJobWith ticket scheduler.now }
     ensures found { result.code ≡ DONE → IsFound ticket result scheduler.now }
@@ -34,7 +34,7 @@ fn after_ticket(ticket: u64) -> u32
 }
 
 /// Returns the first job in a slot after that of a ticket.
-pub(crate) fn after(scheduler: &Scheduler, ticket: u64) -> JobAnswer
+pub(crate) fn after(scheduler: &Scheduler, ticket: u64) -> PlanJob
     ensures codes { (result.code ≡ DONE) ⊎ (result.code ≡ NO_JOB) }
     ensures no_job { result.code ≡ NO_JOB → HasNoneAfter ticket scheduler.now }
     ensures next { result.code ≡ DONE → IsAfter ticket result scheduler.now }

@@ -6,7 +6,7 @@ ghost use Rattle.cubejobs_plan.specs.Answers.{SaysNothing};
 ghost use Rattle.cubejobs_plan.specs.Handle.{OnCore, OnCores, core_of};
 ghost use Rattle.cubejobs_plan.specs.Jobs.{IsAtRest, IsStarted};
 
-use crate::answer::JobAnswer;
+use crate::answer::PlanJob;
 use crate::answers::refused;
 use crate::codes::{DONE, NO_JOB, NOT_OPEN, OUT_OF_RANGE, TIME_BACK};
 use crate::handle::Handle;
@@ -14,7 +14,7 @@ use crate::starting::next;
 
 /// Starts one job at this time, or says that none may start.
 #[unsafe(no_mangle)]
-pub extern "C" fn cubejobs_plan_next(plan: &mut Handle, now: u64) -> JobAnswer
+pub extern "C" fn cubejobs_plan_next(plan: &mut Handle, now: u64) -> PlanJob
     ensures not_open { core_of plan.old ≡ None → result.code ≡ NOT_OPEN }
     ensures out_of_range { IsSome (core_of plan.old) → now ≡ LAST → result.code ≡ OUT_OF_RANGE }
     ensures time_back { now < LAST → OnCore (λ core. now < time_of core) (core_of plan.old)

@@ -16,7 +16,7 @@ pub const JOB_BYTES: u64 = 96;
 pub const NODE_BYTES: u64 = 14;
 
 /// The most bytes that do not depend on the options.
-pub const OTHER_BYTES: u64 = 4096;
+pub const OTHER_BYTES: u64 = 4000;
 
 // Returns how many bytes a planner needs.
 pub(crate) fn bytes(options: Options) -> u64

@@ -3,7 +3,7 @@
 /// A job as it is submitted.
 #[repr(C)]
 #[derive(Clone, Copy, Debug)]
-pub struct Request {
+pub struct PlanRequest {
     /// A number of the caller's.
     pub payload: u64,
     /// How long it runs at most, or 0 if that is not known.

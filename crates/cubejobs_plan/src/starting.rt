@@ -6,13 +6,13 @@ ghost use Rattle.sched_core.specs.Shows.{time_of};
 ghost use Rattle.cubejobs_plan.specs.Answers.{SaysNothing};
 ghost use Rattle.cubejobs_plan.specs.Jobs.{IsAtRest, IsStarted};
 
-use crate::answer::JobAnswer;
+use crate::answer::PlanJob;
 use crate::answers::{answer_at, refused};
 use crate::codes::{DONE, NO_JOB, OUT_OF_RANGE, TIME_BACK};
 use sched_core::{NEVER, Scheduler};
 
 /// Starts the job that comes next at this time.
-pub(crate) fn next(scheduler: &mut Scheduler, now: u64) -> JobAnswer
+pub(crate) fn next(scheduler: &mut Scheduler, now: u64) -> PlanJob
     ensures out_of_range { now ≡ LAST → result.code ≡ OUT_OF_RANGE }
     ensures time_back { now < LAST → now < time_of scheduler.old → result.code ≡ TIME_BACK }
     ensures decided { now < LAST → time_of scheduler.old ≤ now

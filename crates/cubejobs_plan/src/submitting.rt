@@ -4,12 +4,12 @@ ghost use Rattle.std.specs.Prelude.{◌≡◌, ◌≢◌, ℕ, ◌^◌, ◌<◌,
 ghost use Rattle.sched_law.specs.Law.{IsSound};
 ghost use Rattle.sched_core.specs.Shows.{dim_of};
 ghost use Rattle.cubejobs_plan.specs.Answers.{SaysNothing};
-ghost use Rattle.cubejobs_plan.specs.Jobs.{IsAskable, IsAsked, IsFull, IsSubmitted};
+ghost use Rattle.cubejobs_plan.specs.Jobs.{IsAskable, IsAsked, IsFull, IsRefused, IsSubmitted};
 
-use crate::answer::JobAnswer;
+use crate::answer::PlanJob;
 use crate::answers::{answer_at, refused};
 use crate::codes::{DONE, FULL, OUT_OF_RANGE};
-use crate::request::Request;
+use crate::request::PlanRequest;
 use cube_shape::MAX_BITMAP_DIM;
 use sched_core::{CLASSES, NEVER, SchedJob, Scheduler};
 
@@ -23,7 +23,7 @@ fn least_dim(count: u32) -> u32
 }
 
 // Returns whether a machine of dimension `n` can have the job.
-fn is_askable(n: u32, request: Request) -> bool
+fn is_askable(n: u32, request: PlanRequest) -> bool
     requires { n ≤ MAX_BITMAP_DIM }
     ensures { IsTrue result ↔ IsAskable n request }
 {
@@ -40,7 +40,7 @@ fn is_askable(n: u32, request: Request) -> bool
 }
 
 // Makes the job that is asked for.
-fn job_of(n: u32, request: Request) -> SchedJob
+fn job_of(n: u32, request: PlanRequest) -> SchedJob
     requires limit { n ≤ MAX_BITMAP_DIM }
     requires askable { IsAskable n request }
     ensures asked { IsAsked request result }
@@ -56,12 +56,13 @@ fn job_of(n: u32, request: Request) -> SchedJob
 }
 
 /// Submits a job.
-pub(crate) fn submit(scheduler: &mut Scheduler, request: Request) -> JobAnswer
+pub(crate) fn submit(scheduler: &mut Scheduler, request: PlanRequest) -> PlanJob
     ensures out_of_range { (IsAskable (dim_of scheduler.old) request → ⊥)
         → result.code ≡ OUT_OF_RANGE }
     ensures tried { IsAskable (dim_of scheduler.old) request
         → (result.code ≡ DONE) ⊎ (result.code ≡ FULL) }
     ensures full { result.code ≡ FULL → IsFull scheduler.old }
+    ensures refused { IsRefused request scheduler.old → result.code ≡ FULL }
     ensures submitted { result.code ≡ DONE
         → IsSubmitted request result scheduler.old scheduler.new }
     ensures nothing { result.code ≢ DONE → SaysNothing result }
