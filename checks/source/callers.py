@@ -36,6 +36,7 @@ QUOTES = {
     "cubejobs": ("uses/src/whole.rt",),
     "cubejobs_fit": ("../examples/fit.c",),
     "cubejobs_dispatch": ("../examples/lanes.c",),
+    "cubejobs_plan": ("../examples/plan.c",),
     "cubejobs_regions": ("../examples/regions.c",),
     "cubejobs_rounds": ("../examples/rounds.c",),
     "devices": (

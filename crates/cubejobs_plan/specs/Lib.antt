@@ -9,3 +9,4 @@ pub mod Jobs
 pub mod Looks
 pub mod Options
 pub mod Sizes
+pub use Rattle.sched_core.specs.Shows.{dim_of, time_of}
