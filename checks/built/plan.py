@@ -2,7 +2,8 @@
 
 plan_calls.c makes random calls and prints each one with its answer. Here plan_model.py answers the same calls, and each
 line must agree in all its numbers. It is run as C and as C++, with the compiler's checks of addresses, also of memory
-that is not freed. A model with a fault must be seen, and the example shows what it must. SEED, PLANNERS and CALLS are for a longer run: calls of so many
+that is not freed. A model with a fault must be seen, and the example shows what it must. Each request for memory is
+refused in turn. SEED, PLANNERS and CALLS are for a longer run: calls of so many
 planners.
 """
 import os
@@ -178,14 +179,14 @@ FAULTS = (IgnoresClasses, ForgetsTheReservation, WaitsForNoPromise, IsNeverPatie
 # ---- runs
 
 
-def built(room, compiler, source="checks/built/plan_calls.c"):
+def built(room, compiler, source="checks/built/plan_calls.c", flags=()):
     """Compiles a program over the library. Returns its path."""
     if not shutil.which(compiler[0]):
         raise Skipped(f"no {compiler[0]} here")
     library, out = path("crates", LIBRARY, "out", f"lib{LIBRARY}.a"), f"{room}/program"
     if not os.path.exists(library):
         subprocess.run([path("checks", "run"), "static", LIBRARY], check=True)
-    words = [*compiler, *STRICT, path(source), "-xnone", library]
+    words = [*compiler, *STRICT, path(source), "-xnone", *flags, library]
     status, _, said = answer([*words, f"{kit().KIT}/c/liblibc_c.a", "-o", out], timeout=300)
     must(status == 0, said.decode(errors="replace"))
     return out
@@ -215,6 +216,12 @@ def must_show(room):
     must(shown == read("examples/plan.out"), f"it shows {shown!r}")
 
 
+def must_refuse(room):
+    """Sees that each request for memory may be refused, and that a planner has as many bytes as it says."""
+    program = built(room, C, "checks/built/plan_memory.c", ["-Wl,--wrap=malloc,--wrap=free"])
+    must(not list(calls(program, [])), "it writes")
+
+
 def must_differ(room, rules):
     """Sees that a model with a fault answers a call otherwise."""
     replay = Replay(rules)
@@ -234,6 +241,7 @@ def rows(room, words):
     yield Row("random calls", must_agree, (room, [*C, *CHECKS], words or ["1", "400", "120"]))
     yield Row("random calls by C++", must_agree, (room, [*CXX, *CHECKS], ["2", "100", "120"]))
     yield Row("examples/plan.c", must_show, (room,))
+    yield Row("requests for memory", must_refuse, (room,))
     for rules in FAULTS:
         yield Row(f"a model that {rules.__name__}", must_differ, (room, rules))
 
