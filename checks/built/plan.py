@@ -3,8 +3,7 @@
 plan_calls.c makes random calls and prints each one with its answer. Here plan_model.py answers the same calls, and each
 line must agree in all its numbers. It is run as C and as C++, with the compiler's checks of addresses, also of memory
 that is not freed. A model with a fault must be seen, and the example shows what it must. Each request for memory is
-refused in turn. SEED, PLANNERS and CALLS are for a longer run: calls of so many
-planners.
+refused in turn. SEED, PLANNERS and CALLS are for a longer run: calls of so many planners.
 """
 import os
 import shutil
