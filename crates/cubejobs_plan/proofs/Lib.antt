@@ -3,3 +3,4 @@ mod AskedLemmas
 mod DimLemmas
 mod FewLemmas
 mod PlaceLemmas
+mod TicketLemmas
