@@ -2,8 +2,8 @@
  *
  * Each header has an enum of the codes of its own calls. They all share one row of numbers: a code
  * that two headers have is the same number in both, and a number has one meaning. So one function
- * has the text of each code. The numbers 30, 49, 52 to 54 and 60 are not in
- * use.
+ * has the text of each code. The numbers 30, 45 to 49, 52 to 54 and 60 are not
+ * in use.
  */
 #ifndef CUBEJOBS_CODES_H
 #define CUBEJOBS_CODES_H
@@ -87,10 +87,6 @@ CUBEJOBS_INLINE const char *cubejobs_code_text(uint32_t code) {
     case 42: return "other calls were in the way: call again";
     case 43: return "there is no job: park the thread";
     case 44: return "the worker lies down";
-    case 45: return "a number is out of range";
-    case 46: return "the planner has as many jobs as it may have";
-    case 47: return "the job or the block is not in the state that the call needs";
-    case 48: return "the time is before that of the last call";
     case 50: return "the memory is too small, null, or not at a multiple of 8";
     case 51: return "the bytes are not a sound image of this dimension";
     case 55: return "no shape of messages has this number";

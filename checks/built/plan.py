@@ -11,12 +11,12 @@ import subprocess
 import tempfile
 
 from checks.built.plan_model import DONE, NO_JOB, Model
-from checks.lib.repository import path, read
+from checks.lib.repository import path
 from checks.lib.rows import Row, Skipped, answer, must, run_rows
 from checks.lib.toolchain import kit
 
 LIBRARY = "cubejobs_plan"
-STRICT = ["-O1", "-g", "-Wall", "-Wextra", "-Werror", "-pedantic", f"-I{path('include')}"]
+STRICT = ["-O1", "-g", "-Wall", "-Wextra", "-Werror", "-pedantic", f"-I{path('checks', 'built')}"]
 CHECKS = ["-fsanitize=address,undefined", "-fno-sanitize-recover=all"]
 C, CXX = ["gcc", "-std=c11", "-xc"], ["g++", "-std=c++11", "-xc++"]
 OUT_OF_RANGE, NOT_OPEN, ALREADY_OPEN, BAD_VERSION = 45, 12, 14, 15
@@ -209,12 +209,6 @@ def must_agree(room, compiler, words):
     return f"{count:,} calls"
 
 
-def must_show(room):
-    """Sees that the example shows what its file has."""
-    shown = "".join(f"{line}\n" for line in calls(built(room, [*C, *CHECKS], "examples/plan.c"), []))
-    must(shown == read("examples/plan.out"), f"it shows {shown!r}")
-
-
 def must_refuse(room):
     """Sees that each request for memory may be refused, and that a planner has as many bytes as it says."""
     program = built(room, C, "checks/built/plan_memory.c", ["-Wl,--wrap=malloc,--wrap=free"])
@@ -239,7 +233,6 @@ def differs(replay, line):
 def rows(room, words):
     yield Row("random calls", must_agree, (room, [*C, *CHECKS], words or ["1", "400", "120"]))
     yield Row("random calls by C++", must_agree, (room, [*CXX, *CHECKS], ["2", "100", "120"]))
-    yield Row("examples/plan.c", must_show, (room,))
     yield Row("requests for memory", must_refuse, (room,))
     for rules in FAULTS:
         yield Row(f"a model that {rules.__name__}", must_differ, (room, rules))

@@ -36,7 +36,6 @@ QUOTES = {
     "cubejobs": ("uses/src/whole.rt",),
     "cubejobs_fit": ("../examples/fit.c",),
     "cubejobs_dispatch": ("../examples/lanes.c",),
-    "cubejobs_plan": ("../examples/plan.c",),
     "cubejobs_regions": ("../examples/regions.c",),
     "cubejobs_rounds": ("../examples/rounds.c",),
     "devices": (
@@ -77,6 +76,7 @@ QUOTES = {
     "wait_queue": ("sched_jobs/src/lines.rt#pub(crate) fn join_line",),
     "sched_blocks": ("sched_core/src/start.rt#fn launch",),
     "sched_jobs": ("sched_core/src/choice.rt#fn passing_any",),
+    "sched_core": ("cubejobs_plan/src/starting.rt#pub(crate) fn next",),
     "wake_pool": ("wake_calls/src/steps.rt#pub fn rise<",),
     "wake_calls": ("wake_table/src/tests.rt#fn sleeps", "wake_table/src/tests.rt#fn wakes"),
     "wake_table": ("wake_table/src/tests.rt#fn a_sleeper_is_woken_for_a_job",),
@@ -84,7 +84,7 @@ QUOTES = {
 # A library that nobody calls, and why.
 UNCALLED = {
     "job_events": "the program does not call it yet", "sched_law": "its functions are laws, which proofs cite",
-    "sched_core": "no program calls it yet",
+    "cubejobs_plan": "it is not shipped yet",
     "ghost_history": "it has no code that runs", "ghost_log": "its calls do nothing at run time"}
 OPENING = re.compile(r"\A(//.*\n)+\n?")
 BLOCK = re.compile(r"((?<=```rust\n)|(?<=```antt\n)|(?<=```c\n)).*?(?=```\n)", re.DOTALL)

@@ -26,7 +26,6 @@ LIBRARIES = (
     Library("cubejobs_regions.h", "CUBEJOBS_REGIONS_", "cubejobs_regions_code", "cubejobs_regions",
             ("TIMED_OUT", "STOPPED", "STALE")),
     Library("cubejobs_dispatch.h", "CUBEJOBS_DISPATCH_", "cubejobs_dispatch_code", "cubejobs_dispatch"),
-    Library("cubejobs_plan.h", "CUBEJOBS_PLAN_", "cubejobs_plan_code", "cubejobs_plan"),
     Library("cubejobs_rounds.h", "CUBEJOBS_ROUNDS_", "cubejobs_rounds_code", "cubejobs_rounds"),
 )
 TEXTS = "cubejobs_codes.h"

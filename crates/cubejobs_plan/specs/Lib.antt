@@ -9,4 +9,5 @@ pub mod Jobs
 pub mod Looks
 pub mod Options
 pub mod Sizes
-pub use Rattle.sched_core.specs.Shows.{dim_of, time_of}
+pub use Rattle.sched_core.specs.Shows.{ShowsCore, dim_of, time_of}
+pub use Rattle.sched_law.specs.State.{Sched}

@@ -48,8 +48,8 @@ IsWaitForecast w j answer =
     × (answer ≡ Promised r t))
     ⊎ (((r : Region) → w.reserved ≡ Some (record { job = j; block = r }) → ⊥) × (answer ≡ Queued))
 
--- Job `i` comes before the waiting job `j`: the reserved job comes before all others, and these come
--- in order.
+-- Job `i` comes before the waiting job `j`: the reserved job comes before all others, and these
+-- come in order.
 abbrev pub ComesBeforeBy : Option Reservation → Sched → ℕ → SchedJob → ℕ → Type 0
 ComesBeforeBy None w j job i = WaitsBefore w j job i
 ComesBeforeBy (Some reserved) w j job i =
