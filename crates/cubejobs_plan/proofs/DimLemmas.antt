@@ -1,5 +1,5 @@
 -- The least dimension, by binary digits.
-use Rattle.std.proofs.Common.{◌≡◌, ℕ, suc, ◌+◌, ◌-◌, ◌*◌, ◌<◌, ◌≤◌, ◌^◌, arith}
+use Rattle.std.proofs.Common.{ℕ, suc, ◌+◌, ◌-◌, ◌*◌, ◌<◌, ◌≤◌, ◌^◌, arith}
 use Rattle.std.proofs.Math.Pow.{pow_mono}
 
 pub digits_enough : (p k : ℕ) → 0 < p → p - 1 < 2 ^ k → p ≤ 2 ^ k

@@ -1,5 +1,5 @@
 -- There are at most as many jobs as slots.
-use Rattle.std.proofs.Common.{◌≡◌, ℕ, zero, suc, ◌+◌, ◌<◌, ◌≤◌, inl, inr, List, [], ◌∷◌, ◌++◌, length, refl, sym, ◌∙◌, subst, arith}
+use Rattle.std.proofs.Common.{◌≡◌, ℕ, zero, suc, ◌<◌, ◌≤◌, inl, inr, List, [], ◌∷◌, ◌++◌, length, sym, ◌∙◌, subst, arith}
 use Rattle.std.proofs.lemmas.List.{length-append}
 use Rattle.region_bits.specs.Count.{IsCount}
 use Rattle.wait_queue.specs.Lists.{Has, IsRising}
@@ -7,7 +7,7 @@ use Rattle.wait_queue.specs.Nodes.{key_of}
 use Rattle.wait_queue.specs.declared.nodes.TheConstants.{MAX_SLOTS}
 use Rattle.wait_queue.proofs.ListLemmas.{has_cases, rising_append, rising_few}
 use Rattle.sched_law.specs.State.{Sched}
-use Rattle.sched_jobs.specs.Slots.{IsPresent, place_in}
+use Rattle.sched_jobs.specs.Slots.{IsPresent}
 use Rattle.sched_jobs.proofs.SlotLemmas.{inside_table}
 use Rattle.sched_core.specs.declared.scheduler.Core.{Core}
 use Rattle.sched_core.specs.Shows.{ShowsCore}

@@ -1,14 +1,13 @@
 -- A ticket names one job.
-use Rattle.std.proofs.Common.{◌≡◌, ℕ, ◌+◌, ◌*◌, ◌<◌, ◌≤◌, sym, ◌∙◌, ap, subst, arith}
+use Rattle.std.proofs.Common.{◌≡◌, ℕ, ◌+◌, ◌*◌, ◌<◌, ◌≤◌, sym, ◌∙◌, ap, arith}
 use Rattle.wait_queue.specs.declared.nodes.TheConstants.{MAX_SLOTS}
-use Rattle.sched_law.specs.declared.job.Place.{Place}
 use Rattle.sched_law.specs.declared.job.Place.TheVariants.{Waiting, Running}
 use Rattle.sched_law.specs.declared.job.SchedWait.{SchedWait}
 use Rattle.sched_law.specs.declared.job.SchedRun.{SchedRun}
 use Rattle.sched_law.specs.State.{Sched}
 use Rattle.sched_law.proofs.SetLemmas.{runs_waits}
 use Rattle.sched_core.specs.declared.scheduler.Core.{Core}
-use Rattle.sched_core.specs.Shows.{ShowsCore, job_generation, job_place, job_ticket, slots_of}
+use Rattle.sched_core.specs.Shows.{ShowsCore, job_generation, job_place, slots_of}
 use Rattle.cubejobs_plan.specs.Jobs.{HasRunningWith, HasWaitingWith, IsJobWith}
 
 module _ (w : Sched) (core : Core) (k : ShowsCore w core) (ticket : ℕ) where

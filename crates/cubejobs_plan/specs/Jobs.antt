@@ -1,5 +1,5 @@
 -- Which job a call is about, and what it does to the scheduler.
-use Rattle.std.specs.Prelude.{◌≡◌, ◌≢◌, ℕ, ◌+◌, ◌^◌, ◌<◌, ◌≤◌, ◌⊎◌, Some, None}
+use Rattle.std.specs.Prelude.{◌≡◌, ℕ, ◌+◌, ◌^◌, ◌<◌, ◌≤◌, ◌⊎◌, Some, None}
 use Rattle.sched_law.specs.declared.job.TheConstants.{NEVER}
 use Rattle.sched_law.specs.declared.job.Place.TheVariants.{Absent, Waiting, Running}
 use Rattle.sched_law.specs.declared.job.SchedJob.{SchedJob}

@@ -1,10 +1,6 @@
 -- What a look at the scheduler finds.
-use Rattle.std.specs.Prelude.{◌≡◌, ℕ, ◌+◌, ◌%◌, ◌^◌, ◌≤◌, ◌==◌, if◌then◌else◌}
-use Rattle.cube_shape.specs.Falling.{IsHeld}
-use Rattle.region_bits.specs.Count.{IsCount}
-use Rattle.sched_law.specs.State.{Sched, IsVacant, held}
-use Rattle.sched_law.specs.Policy.{HasNone}
-use Rattle.sched_jobs.specs.Counts.{DoesWait}
+use Rattle.std.specs.Prelude.{◌≡◌, ℕ, ◌+◌, ◌%◌, ◌==◌, if◌then◌else◌}
+use Rattle.sched_law.specs.State.{Sched}
 use Rattle.wait_queue.specs.declared.nodes.TheConstants.{MAX_SLOTS}
 use Rattle.sched_core.specs.declared.scheduler.Core.{Core}
 use Rattle.sched_core.specs.Shows.{HasNoneTaken, IsNextTaken, ShowsCore}

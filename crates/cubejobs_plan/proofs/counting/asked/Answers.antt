@@ -1,5 +1,5 @@
 -- The running jobs asked for no more processors than there are.
-use Rattle.std.proofs.Common.{◌≡◌, ℕ, ◌≤◌, subst, sym, arith}
+use Rattle.std.proofs.Common.{ℕ, ◌≤◌, subst, sym, arith}
 use Rattle.cube_shape.specs.declared.limits.TheConstants.{MAX_BITMAP_DIM}
 use Rattle.sched_core.proofs.CoreLemmas.{core_safe}
 use Rattle.cubejobs_plan.proofs.AskedLemmas.{asked_few}
