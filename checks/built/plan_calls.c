@@ -1,7 +1,7 @@
-// Calls the planner at random, and prints each call with its answer: a line for each. checks/built/plan.py makes the same
+// Calls the planner at random, and prints each call with its answer: a line for each. plan_calls.py makes the same
 // calls of a plain model, and compares. `plan_calls SEED PLANNERS CALLS` opens PLANNERS planners, on machines of
-// dimension 0 to 8, and makes CALLS calls of each: all classes, estimates that are wrong, unknown or huge, blocks out of
-// service, bad arguments, and tickets that no job has. It is C and C++ alike.
+// dimension 0 to 8, and makes CALLS calls of each: all classes, estimates that are wrong, unknown or huge, blocks out
+// of service, bad arguments, and tickets that no job has. It is C and C++ alike.
 #include <inttypes.h>
 #include <stdio.h>
 #include <stdlib.h>

@@ -1,9 +1,9 @@
-"""Plays the planner beside a plain model of its rules: `checks/run plan [SEED PLANNERS CALLS]`.
+"""Plays the planner beside a plain model of its rules: `checks/run plan_calls [SEED PLANNERS CALLS]`.
 
 plan_calls.c makes random calls and prints each one with its answer. Here plan_model.py answers the same calls, and each
 line must agree in all its numbers. It is run as C and as C++, with the compiler's checks of addresses, also of memory
-that is not freed. A model with a fault must be seen, and the example shows what it must. Each request for memory is
-refused in turn. SEED, PLANNERS and CALLS are for a longer run: calls of so many planners.
+that is not freed. A model with a fault must be seen. Each request for memory is refused in turn. SEED, PLANNERS and
+CALLS are for a longer run: calls of so many planners.
 """
 import os
 import shutil
@@ -16,7 +16,8 @@ from checks.lib.rows import Row, Skipped, answer, must, run_rows
 from checks.lib.toolchain import kit
 
 LIBRARY = "cubejobs_plan"
-STRICT = ["-O1", "-g", "-Wall", "-Wextra", "-Werror", "-pedantic", f"-I{path('checks', 'built')}"]
+HEADERS = [f"-I{path('checks', 'built')}", f"-I{path('include')}"]
+STRICT = ["-O1", "-g", "-Wall", "-Wextra", "-Werror", "-pedantic", *HEADERS]
 CHECKS = ["-fsanitize=address,undefined", "-fno-sanitize-recover=all"]
 C, CXX = ["gcc", "-std=c11", "-xc"], ["g++", "-std=c++11", "-xc++"]
 OUT_OF_RANGE, NOT_OPEN, ALREADY_OPEN, BAD_VERSION = 45, 12, 14, 15
@@ -240,4 +241,4 @@ def rows(room, words):
 
 def main(words):
     with tempfile.TemporaryDirectory() as room:
-        return run_rows("plan", rows(room, words))
+        return run_rows("plan_calls", rows(room, words))
