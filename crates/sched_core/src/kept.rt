@@ -300,7 +300,7 @@ impl Scheduler {
     /// Starts the job that comes next at this time, and returns its slot. Returns `None` if no job
     /// may start; then a block may have been reserved. A state has only one decision, as
     /// `sched_law::decisions_are_one` says, so the clause `decides` fixes the job and the state.
-    /// What `sched_law` says of promises is said of times that never go back.
+    /// The laws of `sched_law` on promises hold if times never go back.
     pub fn next(&mut self, now: u64) -> Option<u32>
         ensures slots { slots_of self.new ≡ slots_of self.old }
         ensures inside { IfSome result (λ slot. slot < slots_of self.new) }
