@@ -9,10 +9,10 @@ use Rattle.cube_shape.specs.Node.{OnPath}
 use Rattle.cube_shape.proofs.PathLemmas.{OnPath-le, OnPath-linear, OnPath-one_child, OnPath-parent, OnPath-trans, OnPath-up}
 use Rattle.fit_tree.specs.Rooms.{IsNode, IsSound, room_of}
 use Rattle.fit_tree.specs.InnerNodes.{HasNoTakenAbove, IsOpen}
-use Rattle.fit_tree.specs.InnerApart.{AreUnrelated, HasNoneIn, IsFound, IsPlaced, IsStart}
+use Rattle.fit_tree.specs.InnerApart.{AreUnrelated, HasNoneIn, IsFound, IsMost, IsPlaced, IsStart}
 use Rattle.fit_tree.proofs.NodeLemmas.{IsNode-has, IsNode-in_cube, IsNode-left, IsNode-parent, IsNode-right, below_child, same_dim, steps_up}
-use Rattle.fit_tree.proofs.RoomLemmas.{none_open}
-use Rattle.fit_tree.proofs.WalkLemmas.{OnPath-root}
+use Rattle.fit_tree.proofs.RoomLemmas.{none_open, room_bound}
+use Rattle.fit_tree.proofs.WalkLemmas.{Descent-begin, Descent-ends, Descent-first, Descent-node, Descent-open, OnPath-root}
 
 -- two children of one node
 abbrev AreSiblings : ℕ → ℕ → Type 0
@@ -272,3 +272,60 @@ found_none n k rooms avoid found none is = subst (IsFound n k rooms avoid 1) non
 
 pub found_some : (n k : ℕ) (rooms : List ℕ) (avoid : ℕ) (found : Option Start) (start : Start) → found ≡ Some start → IsFound n k rooms avoid 1 found → IsStart n k rooms avoid 1 start.dim start.node
 found_some n k rooms avoid found start some is = subst (IsFound n k rooms avoid 1) some is
+
+-- ---- the most room
+
+pub most_taken : (n : ℕ) (rooms : List ℕ) (avoid d c : ℕ) → IsNode n d c → d < n → OnPath c avoid → room_of rooms (c / 2) ≡ 0 → IsMost n rooms avoid (c / 2) 0
+most_taken n rooms avoid d c node inner way taken = (
+  λ k enough. absurd (omega (arith, enough)),
+  λ k less. widen-taken n k rooms avoid d c node inner way taken,
+)
+
+module _ (n : ℕ) (rooms : List ℕ) (sound : IsSound n rooms) (avoid d c : ℕ) (node : IsNode n d c) (inner : d < n) (way : OnPath c avoid)
+    (here : room_of rooms (c / 2) ≢ 0) (s : ℕ) (siblings : AreSiblings c s) (most now : ℕ) (before : IsMost n rooms avoid c most)
+    (least : most ≤ now) (room : room_of rooms s ≤ now) (one_of : (now ≡ most) ⊎ (now ≡ room_of rooms s)) where
+  -- the sibling is entered
+  enters : (k : ℕ) → k + 2 ≤ room_of rooms s → (c < s → HasNoneIn n k rooms avoid c) → (e : ℕ) × (t : ℕ) × IsStart n k rooms avoid (c / 2) e t
+  enters k enough earlier =
+      let bound = room_bound n rooms sound d s (sibling_node n k rooms avoid d c node inner way s siblings) in
+      (d, s, widen-enter n k rooms avoid d c node inner way s siblings here (omega (arith, enough, bound)) enough earlier)
+
+  some_now : (k : ℕ) → k + 2 ≤ now → (e : ℕ) × (t : ℕ) × IsStart n k rooms avoid (c / 2) e t
+  some_now k enough = elim (cases_lt most (k + 2)) [
+    | inl less ↦ enters k (elim one_of [ inl same ↦ absurd (omega (arith, same, less, enough)) | inr same ↦ omega (arith, same, enough) ]) (λ _. before.1 k less)
+    | inr more ↦
+        let start = before.0 k more in
+        elim (cases_lt c s) [
+          | inl order ↦ (start.0, start.1, widen-keep n k rooms avoid d c node inner way s siblings sound here (inr order) start.0 start.1 start.2)
+          | inr order ↦ elim (cases_lt (room_of rooms s) (k + 2)) [
+            | inl none ↦ (start.0, start.1, widen-keep n k rooms avoid d c node inner way s siblings sound here (inl (inr none)) start.0 start.1 start.2)
+            | inr fits ↦ enters k fits (λ less. absurd (omega (arith, less, order)))
+          ]
+        ]
+  ]
+
+  pub most_widened : IsMost n rooms avoid (c / 2) now
+  most_widened = (
+    some_now,
+    λ k less. widen-none n k rooms avoid d c node inner way s siblings sound (inr (omega (arith, less, room))) (before.1 k (omega (arith, less, least))),
+  )
+
+pub most_begins : (n : ℕ) (rooms : List ℕ) (avoid : ℕ) → IsMost n rooms avoid avoid 0
+most_begins n rooms avoid = (λ k enough. absurd (omega (arith, enough)), λ k less. none_in_avoid n k rooms avoid)
+
+pub most_at_root : (n : ℕ) (rooms : List ℕ) (avoid level v most : ℕ) → level ≡ n → IsNode n level v → IsMost n rooms avoid v most → IsMost n rooms avoid 1 most
+most_at_root n rooms avoid level v most all node is =
+    subst (λ x. IsMost n rooms avoid x most) (root_is n v (subst (λ d. IsNode n d v) all node)) is
+
+-- where there is a start, an open node is apart
+pub start_open : (n k : ℕ) (rooms : List ℕ) (sound : IsSound n rooms) (avoid d s : ℕ) → IsStart n k rooms avoid 1 d s
+    → (w : ℕ) × IsNode n k w × IsOpen n rooms w × AreUnrelated avoid w
+start_open n k rooms sound avoid d s start =
+    let above = start_above n k rooms sound avoid d s start in
+    let found = Descent-ends n k rooms sound d s (d - k) k s (omega (arith, start.fits)) (Descent-begin n k rooms d s start.fits start.node start.enough above) in
+    let node = Descent-node n k rooms sound d s found.0 found.1 in (
+      found.0,
+      node,
+      Descent-open n k rooms sound d s found.0 found.1,
+      start_apart n k rooms sound avoid d s start found.0 node found.1.below (Descent-first n k rooms sound d s found.0 found.1),
+    )

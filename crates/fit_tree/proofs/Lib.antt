@@ -16,3 +16,5 @@ pub mod HalvesLemmas
 pub mod ValueLemmas
 pub mod CheckLemmas
 pub mod RepairLemmas
+pub mod FitInLemmas
+pub mod LargestLemmas

@@ -25,6 +25,13 @@ pub record IsStart (n k : ℕ) (rooms : List ℕ) (avoid c d s : ℕ) : Type 0 w
   pub before : (w : ℕ) → IsNode n k w → OnPath c w → AreUnrelated avoid w → w / 2 ^ (d - k) < s
       → IsOpen n rooms w → ⊥
 
+-- The most room of nodes in node `c` that are apart from the one to avoid. Where it is enough for
+-- dimension `k`, there is a start for `k`.
+abbrev pub IsMost : ℕ → List ℕ → ℕ → ℕ → ℕ → Type 0
+IsMost n rooms avoid c most =
+    ((k : ℕ) → k + 2 ≤ most → (d : ℕ) × (s : ℕ) × IsStart n k rooms avoid c d s)
+    × ((k : ℕ) → most < k + 2 → HasNoneIn n k rooms avoid c)
+
 -- What was found is a node of its dimension.
 abbrev pub IsPlaced : ℕ → ℕ → Option Start → Type 0
 IsPlaced n k found = IfSome found (λ s. (k ≤ s.dim) × IsNode n s.dim s.node)

@@ -3,6 +3,7 @@ pub mod Image
 pub mod Fit
 pub mod FirstApart
 pub mod Halves
+pub mod Parts
 pub mod Topmost
 pub mod InnerFit
 pub mod InnerNodes

@@ -4,7 +4,7 @@ ghost use Rattle.std.specs.Prelude.{◌≡◌, ℕ, ◌+◌, ◌/◌, ◌^◌, �
 ghost use Rattle.cube_shape.specs.Node.{OnPath};
 ghost use Rattle.fit_tree.specs.Rooms.{IsNode, IsSound, room_of};
 ghost use Rattle.fit_tree.specs.InnerNodes.{IsOpen};
-ghost use Rattle.fit_tree.specs.InnerApart.{AreUnrelated, IsFound, IsPlaced};
+ghost use Rattle.fit_tree.specs.InnerApart.{AreUnrelated, IsFound, IsMost, IsPlaced};
 
 use crate::walks::go_down;
 use cube_shape::MAX_BITMAP_DIM;
@@ -82,4 +82,37 @@ fn enter(rooms: &[u8], k: u32, dim: u32, node: usize) -> Option<Start>
         return Some(Start { node, dim });
     }
     None
+}
+
+/// Returns the most room of nodes that are neither above nor below another one, which has dimension
+/// `dim`, and are not below a taken node.
+pub(crate) fn most_apart(rooms: &[u8], n: u32, dim: u32, avoid: usize) -> u8
+    requires machine { n ≤ MAX_BITMAP_DIM }
+    requires rooms { length rooms.now ≡ 2 ^ (n + 1) }
+    requires node { IsNode n dim avoid }
+    ensures { IsSound n rooms.now → IsMost n rooms.now avoid 1 result }
+{
+    let mut most = 0;
+    let mut node = avoid;
+    for level in dim..n {
+        most = widen_most(rooms, n, level, node, most);
+        node /= 2;
+    }
+    most
+}
+
+// Goes from the most room in a node on the way up to that in its parent. The node has dimension
+// `dim`.
+fn widen_most(rooms: &[u8], n: u32, dim: u32, node: usize, most: u8) -> u8
+    requires machine { n ≤ MAX_BITMAP_DIM }
+    requires rooms { length rooms.now ≡ 2 ^ (n + 1) }
+    requires dim { dim < n }
+    requires node { IsNode n dim node }
+    ensures { IsSound n rooms.now → (avoid : ℕ) → OnPath node avoid
+        → IsMost n rooms.now avoid node most → IsMost n rooms.now avoid (node / 2) result }
+{
+    if rooms[node / 2] == 0 {
+        return 0;
+    }
+    most.max(rooms[node ^ 1])
 }

@@ -8,6 +8,7 @@ ghost use Rattle.cube_shape.specs.Machine.{Gives, HasNoFit, IsFirstFit, IsFree, 
 ghost use Rattle.region_bits.specs.Count.{IsCount};
 ghost use Rattle.fit_tree.specs.FirstApart.{HasNoneApart, IsFirstApart};
 ghost use Rattle.fit_tree.specs.Fit.{HoldsBlock, held_in};
+ghost use Rattle.fit_tree.specs.Parts.{HasFitIn, IsHalfOf};
 ghost use Rattle.fit_tree.specs.Halves.{HoldsHalves, Joins, Splits};
 
 use crate::errors::{JoinError, NoFitError, NotFreeError, NotHeldError, SplitError};
@@ -79,6 +80,18 @@ impl FitTree {
         ensures { IsTrue result ↔ IsFree (held_in self.now) region }
     {
         image::is_free(&self.rooms, self.dim, region)
+    }
+
+    /// Returns whether a half of a block has a free block of dimension `k`. It is right only if
+    /// the block has one, and takes one step.
+    pub fn has_fit_in(&self, k: u32, half: Region) -> bool
+        requires half { IsAligned self.now.dim half }
+        requires dim { k ≤ half.dim }
+        ensures { (whole : HeldRegion) → IsAligned self.now.dim whole → IsHalfOf whole half
+            → HasFitIn self.now.dim k (held_in self.now) whole
+            → IsTrue result ↔ HasFitIn self.now.dim k (held_in self.now) half }
+    {
+        image::has_fit_in(&self.rooms, self.dim, k, half)
     }
 
     /// Returns whether a block is held as one block.
@@ -155,6 +168,21 @@ impl FitTree {
         ensures none { IfNone result (HasNoneApart self.now.dim k (held_in self.now) avoid) }
     {
         image::first_apart(&self.rooms, self.dim, k, avoid)
+    }
+
+    /// Returns the largest dimension of a free block apart from one that is to be avoided, or
+    /// `None` if there is none.
+    pub fn largest_apart(&self, avoid: Region) -> Option<u32>
+        requires avoid { IsAligned self.now.dim avoid }
+        ensures dim { IfSome result (λ k. k ≤ self.now.dim) }
+        ensures fits { IfSome result (λ k.
+            HasNoneApart self.now.dim k (held_in self.now) avoid → ⊥) }
+        ensures larger { IfSome result (λ k. (j : ℕ) → k < j → j ≤ self.now.dim
+            → HasNoneApart self.now.dim j (held_in self.now) avoid) }
+        ensures none { IfNone result ((k : ℕ) → k ≤ self.now.dim
+            → HasNoneApart self.now.dim k (held_in self.now) avoid) }
+    {
+        image::largest_apart(&self.rooms, self.dim, avoid)
     }
 
     /// Takes the first fit: block `(m, k)` for the least `m` such that it overlaps no held block.

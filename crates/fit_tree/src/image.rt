@@ -14,10 +14,11 @@ ghost use Rattle.fit_tree.specs.declared.head.Head.{Head as ImageHead};
 ghost use Rattle.fit_tree.specs.Fit.{HoldsBlock, held_in};
 ghost use Rattle.fit_tree.specs.FirstApart.{HasNoneApart, IsFirstApart};
 ghost use Rattle.fit_tree.specs.Halves.{HoldsHalves, Joins, Splits};
+ghost use Rattle.fit_tree.specs.Parts.{HasFitIn, IsHalfOf};
 ghost use Rattle.fit_tree.specs.Image.{IsImage, fit_in};
 ghost use Rattle.fit_tree.specs.Topmost.{IsTopmost};
 
-use crate::apart::find_apart;
+use crate::apart::{find_apart, most_apart};
 pub use crate::checks::check;
 use crate::counts::count_whole;
 use crate::errors::{JoinError, SplitError};
@@ -116,6 +117,27 @@ pub fn first_apart(rooms: &[u8], n: u32, k: u32, avoid: Region) -> Option<Region
         return None;
     };
     Some(block_of(n, k, node))
+}
+
+/// Returns the largest dimension of a free block apart from one that is to be avoided, or `None` if
+/// there is none.
+pub(crate) fn largest_apart(rooms: &[u8], n: u32, avoid: Region) -> Option<u32>
+    requires machine { n ≤ MAX_BITMAP_DIM }
+    requires rooms { length rooms.now ≡ 2 ^ (n + 1) }
+    requires avoid { IsAligned n avoid }
+    ensures dim { IfSome result (λ k. k ≤ n) }
+    ensures fits { IfSome result (λ k. (head : ImageHead) → IsImage n head rooms.now
+        → HasNoneApart n k (held_in (fit_in n rooms.now)) avoid → ⊥) }
+    ensures larger { IfSome result (λ k. (head : ImageHead) → IsImage n head rooms.now
+        → (j : ℕ) → k < j → j ≤ n → HasNoneApart n j (held_in (fit_in n rooms.now)) avoid) }
+    ensures none { IfNone result ((head : ImageHead) → IsImage n head rooms.now
+        → (k : ℕ) → k ≤ n → HasNoneApart n k (held_in (fit_in n rooms.now)) avoid) }
+{
+    let most = most_apart(rooms, n, avoid.dim, node_of(n, avoid));
+    if most < 2 {
+        return None;
+    }
+    Some((most as u32 - 2).min(n))
 }
 
 /// Takes a block.
@@ -249,6 +271,23 @@ pub fn is_free(rooms: &[u8], n: u32, region: Region) -> bool
         → IsTrue result ↔ IsFree (held_in (fit_in n rooms.now)) region }
 {
     walks::is_open(rooms, n, region.dim, node_of(n, region))
+}
+
+/// Returns whether a half of a block has a free block of dimension `k`, if the block has one.
+pub(crate) fn has_fit_in(rooms: &[u8], n: u32, k: u32, half: Region) -> bool
+    requires machine { n ≤ MAX_BITMAP_DIM }
+    requires rooms { length rooms.now ≡ 2 ^ (n + 1) }
+    requires half { IsAligned n half }
+    requires dim { k ≤ half.dim }
+    ensures { (head : ImageHead) (whole : HeldRegion) → IsImage n head rooms.now
+        → IsAligned n whole → IsHalfOf whole half
+        → HasFitIn n k (held_in (fit_in n rooms.now)) whole
+        → IsTrue result ↔ HasFitIn n k (held_in (fit_in n rooms.now)) half }
+{
+    if rooms[node_of(n, half)] < k as u8 + 2 {
+        return false;
+    }
+    true
 }
 
 /// Returns whether a block is held as one block.

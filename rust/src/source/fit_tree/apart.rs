@@ -51,3 +51,24 @@ fn enter(rooms: &[u8], k: u32, dim: u32, node: usize) -> Option<Start> {
     }
     None
 }
+
+/// Returns the most room of nodes that are neither above nor below another one, which has dimension
+/// `dim`, and are not below a taken node.
+pub(crate) fn most_apart(rooms: &[u8], n: u32, dim: u32, avoid: usize) -> u8 {
+    let mut most = 0;
+    let mut node = avoid;
+    for level in dim..n {
+        most = widen_most(rooms, n, level, node, most);
+        node /= 2;
+    }
+    most
+}
+
+// Goes from the most room in a node on the way up to that in its parent. The node has dimension
+// `dim`.
+fn widen_most(rooms: &[u8], n: u32, dim: u32, node: usize, most: u8) -> u8 {
+    if rooms[node / 2] == 0 {
+        return 0;
+    }
+    most.max(rooms[node ^ 1])
+}

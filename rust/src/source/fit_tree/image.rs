@@ -5,7 +5,7 @@
 //! (`check`). A process may be ended in a call. Of the bytes that it leaves `repair` makes an image
 //! with what was held before the call or after it.
 
-use crate::source::fit_tree::apart::find_apart;
+use crate::source::fit_tree::apart::{find_apart, most_apart};
 pub use crate::source::fit_tree::checks::check;
 use crate::source::fit_tree::counts::count_whole;
 use crate::source::fit_tree::errors::{JoinError, SplitError};
@@ -104,6 +104,16 @@ pub fn first_apart(rooms: &[u8], n: u32, k: u32, avoid: Region) -> Option<Region
         return None;
     };
     Some(block_of(n, k, node))
+}
+
+/// Returns the largest dimension of a free block apart from one that is to be avoided, or `None` if
+/// there is none.
+pub(crate) fn largest_apart(rooms: &[u8], n: u32, avoid: Region) -> Option<u32> {
+    let most = most_apart(rooms, n, avoid.dim, node_of(n, avoid));
+    if most < 2 {
+        return None;
+    }
+    Some((most as u32 - 2).min(n))
 }
 
 /// Takes a block.
@@ -235,6 +245,14 @@ pub fn join(head: &mut Head, rooms: &mut [u8], n: u32, region: Region) -> Result
 /// - ensures: `(head : ImageHead) → IsImage n head rooms.now → IsTrue result ↔ IsFree (held_in (fit_in n rooms.now)) region`
 pub fn is_free(rooms: &[u8], n: u32, region: Region) -> bool {
     walks::is_open(rooms, n, region.dim, node_of(n, region))
+}
+
+/// Returns whether a half of a block has a free block of dimension `k`, if the block has one.
+pub(crate) fn has_fit_in(rooms: &[u8], n: u32, k: u32, half: Region) -> bool {
+    if rooms[node_of(n, half)] < k as u8 + 2 {
+        return false;
+    }
+    true
 }
 
 /// Returns whether a block is held as one block.
