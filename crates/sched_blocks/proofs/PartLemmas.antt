@@ -1,16 +1,14 @@
 -- The blocks of one dimension in a part of a machine.
-use Rattle.std.proofs.Common.{◌≡◌, ℕ, suc, ◌+◌, ◌-◌, ◌*◌, ◌/◌, ◌%◌, ◌^◌, ◌<◌, ◌≤◌, ◌⊎◌, inl, inr, sym, ◌∙◌, ap, subst, arith, mul_assoc}
+use Rattle.std.proofs.Common.{◌≡◌, ℕ, suc, ◌+◌, ◌-◌, ◌*◌, ◌^◌, ◌<◌, ◌≤◌, ◌⊎◌, inl, inr, sym, ◌∙◌, ap, subst, arith, mul_assoc}
 use Rattle.std.proofs.lemmas.Bool.{cases_lt}
-use Rattle.std.proofs.lemmas.Nat.{mul-le, pow-add, pow_pos, shl-shr, shl_whole}
+use Rattle.std.proofs.lemmas.Nat.{mul-le, pow-add, pow_pos}
 use Rattle.cube_shape.specs.declared.region.Region.{Region}
-use Rattle.cube_shape.specs.declared.limits.TheConstants.{MAX_BITMAP_DIM}
 use Rattle.cube_shape.specs.Region.{Covers, IsAligned, block}
-use Rattle.cube_shape.specs.Machine.{HasNoFit, Holdings, IsFree}
 use Rattle.cube_shape.specs.Node.{IsNodeOf}
 use Rattle.cube_shape.proofs.RegionLemmas.{IsAligned-block, IsNodeOf-of_aligned, IsNodeOf-one_node}
 use Rattle.fit_tree.specs.Rooms.{IsNode}
-use Rattle.fit_tree.specs.FirstApart.{HasNoneApart, IsFirstApart}
-use Rattle.fit_tree.specs.Fit.{Fit, held_in}
+use Rattle.fit_tree.specs.FirstApart.{HasNoneApart}
+use Rattle.fit_tree.specs.Fit.{held_in}
 use Rattle.fit_tree.specs.Halves.{lower_half, upper_half}
 use Rattle.fit_tree.proofs.NodeLemmas.{IsNode-of}
 use Rattle.fit_tree.proofs.SplitLemmas.{named_lower, named_upper}
@@ -30,12 +28,9 @@ use Rattle.sched_blocks.proofs.ShowsLemmas.{free_usable, free_vacant, none_besid
 region_is : (b c d e : ℕ) → b ≡ c → d ≡ e → ◌≡◌ {A = Region} (record { base = b; dim = d }) (record { base = c; dim = e })
 region_is b c d e same_base same_dim = ap (λ x. record { base = x; dim = d }) same_base ∙ ap (λ x. record { base = c; dim = x }) same_dim
 
--- ---- the numbers of the blocks in a part
+-- ---- where a part begins
 
 module _ (n k : ℕ) (part : Region) (aligned : IsAligned n part) (fits : k ≤ part.dim) where
-  abbrev first : ℕ
-  first = aligned.1.0 * 2 ^ (part.dim - k)
-
   size : 2 ^ part.dim ≡ 2 ^ (part.dim - k) * 2 ^ k
   size =
       let parts : part.dim - k + k ≡ part.dim = omega (arith, fits) in
@@ -43,94 +38,6 @@ module _ (n k : ℕ) (part : Region) (aligned : IsAligned n part) (fits : k ≤ 
 
   pub base_is : part.base ≡ aligned.1.0 * 2 ^ (part.dim - k) * 2 ^ k
   base_is = ap (λ (x : Region). x.base) aligned.1.2 ∙ ap (λ i. aligned.1.0 * i) size ∙ sym (mul_assoc aligned.1.0 (2 ^ (part.dim - k)) (2 ^ k))
-
-  pub first_is : part.base / 2 ^ k ≡ aligned.1.0 * 2 ^ (part.dim - k)
-  first_is = ap (λ x. x / 2 ^ k) base_is ∙ shl-shr first k
-
-  pub numbers_in : aligned.1.0 * 2 ^ (part.dim - k) + 2 ^ (part.dim - k) ≤ 2 ^ (n - k)
-  numbers_in =
-      let rows : (aligned.1.0 + 1) * 2 ^ (part.dim - k) ≤ 2 ^ (n - part.dim) * 2 ^ (part.dim - k) = mul-le (aligned.1.0 + 1) (2 ^ (part.dim - k)) (2 ^ (n - part.dim)) (2 ^ (part.dim - k)) (omega (arith, aligned.1.1)) (omega arith) in
-      let parts : n - part.dim + (part.dim - k) ≡ n - k = omega (arith, fits, aligned.0) in
-      let all : 2 ^ (n - part.dim) * 2 ^ (part.dim - k) ≡ 2 ^ (n - k) = sym (pow-add 2 (n - part.dim) (part.dim - k)) ∙ ap (λ i. 2 ^ i) parts in
-      omega (arith, rows, all)
-
-  ends_at : (first + 2 ^ (part.dim - k)) * 2 ^ k ≡ part.base + 2 ^ part.dim
-  ends_at =
-      let split : (first + 2 ^ (part.dim - k)) * 2 ^ k ≡ first * 2 ^ k + 2 ^ (part.dim - k) * 2 ^ k = omega arith in
-      omega (arith, split, base_is, size)
-
-  pub inside : (m : ℕ) → first ≤ m → m < first + 2 ^ (part.dim - k) → (p : ℕ) → Covers (block k m) p → Covers part p
-  inside m from below p covers =
-      let low : first * 2 ^ k ≤ m * 2 ^ k = mul-le first (2 ^ k) m (2 ^ k) from (omega arith) in
-      let high : (m + 1) * 2 ^ k ≤ (first + 2 ^ (part.dim - k)) * 2 ^ k = mul-le (m + 1) (2 ^ k) (first + 2 ^ (part.dim - k)) (2 ^ k) (omega (arith, below)) (omega arith) in
-      let next : (m + 1) * 2 ^ k ≡ m * 2 ^ k + 2 ^ k = omega arith in
-      (omega (arith, low, base_is, covers.0), omega (arith, high, next, ends_at, covers.1))
-
-  pub number : (s : Region) → IsAligned n s → s.dim ≡ k → ((p : ℕ) → Covers s p → Covers part p) → (m : ℕ) × (first ≤ m) × (m < first + 2 ^ (part.dim - k)) × (s ≡ block k m)
-  number s s_aligned dim covers = (m, from, below, is)
-    where
-      m : ℕ
-      m = s_aligned.1.0
-
-      base : s.base ≡ s_aligned.1.0 * 2 ^ k
-      base = ap (λ (x : Region). x.base) s_aligned.1.2 ∙ ap (λ d. s_aligned.1.0 * 2 ^ d) dim
-
-      is : s ≡ block k s_aligned.1.0
-      is = region_is s.base (s_aligned.1.0 * 2 ^ k) s.dim k base dim
-
-      some : 0 < 2 ^ k
-      some = pow_pos k
-
-      width : 2 ^ s.dim ≡ 2 ^ k
-      width = ap (λ d. 2 ^ d) dim
-
-      low : part.base ≤ s.base
-      low = (covers s.base (omega arith, omega (arith, width, some))).0
-
-      high : s.base + 2 ^ k ≤ part.base + 2 ^ part.dim
-      high =
-          let last = covers (s.base + 2 ^ s.dim - 1) (omega (arith, width, some), omega (arith, width, some)) in
-          omega (arith, last.1, width, some)
-
-      from : first ≤ s_aligned.1.0
-      from = elim (cases_lt s_aligned.1.0 first) [
-        | inr order ↦ order
-        | inl less ↦
-            let over : (s_aligned.1.0 + 1) * 2 ^ k ≤ first * 2 ^ k = mul-le (s_aligned.1.0 + 1) (2 ^ k) first (2 ^ k) (omega (arith, less)) (omega arith) in
-            let next : (s_aligned.1.0 + 1) * 2 ^ k ≡ s_aligned.1.0 * 2 ^ k + 2 ^ k = omega arith in
-            absurd (omega (arith, over, next, low, base, base_is, some))
-      ]
-
-      below : s_aligned.1.0 < first + 2 ^ (part.dim - k)
-      below = elim (cases_lt s_aligned.1.0 (first + 2 ^ (part.dim - k))) [
-        | inl less ↦ less
-        | inr order ↦
-            let over : (first + 2 ^ (part.dim - k)) * 2 ^ k ≤ s_aligned.1.0 * 2 ^ k = mul-le (first + 2 ^ (part.dim - k)) (2 ^ k) s_aligned.1.0 (2 ^ k) order (omega arith) in
-            absurd (omega (arith, over, ends_at, high, base, some))
-      ]
-
--- a part has a free block, if one of these numbers has
-pub has_free : (f : Fit) (k m : ℕ) (part r : Region) (aligned : IsAligned f.dim part) → k ≤ part.dim → part.base / 2 ^ k ≤ m → m < part.base / 2 ^ k + 2 ^ (part.dim - k)
-    → r ≡ block k m → IsAligned f.dim r → IsFree (held_in f) r → HasFreeIn f k part
-has_free f k m part r aligned fits from below is r_aligned free =
-    let at = first_is f.dim k part aligned fits in (
-      r,
-      r_aligned,
-      ap (λ (x : Region). x.dim) is,
-      free,
-      λ p covers. inside f.dim k part aligned fits m (omega (arith, from, at)) (omega (arith, below, at)) p (subst (λ x. Covers x p) is covers),
-    )
-
--- and has none, if none has
-pub has_no_free : (f : Fit) (k : ℕ) (part : Region) (aligned : IsAligned f.dim part) → k ≤ part.dim
-    → ((m : ℕ) → part.base / 2 ^ k ≤ m → m < part.base / 2 ^ k + 2 ^ (part.dim - k) → IsFree (held_in f) (block k m) → ⊥) → HasFreeIn f k part → ⊥
-has_no_free f k part aligned fits none (s, s_aligned, dim, free, covers) =
-    let at = first_is f.dim k part aligned fits in
-    let found = number f.dim k part aligned fits s s_aligned dim covers in
-    none found.0 (omega (arith, found.1, at)) (omega (arith, found.2, at)) (subst (IsFree (held_in f)) found.3 free)
-
-pub number_fits : (n k : ℕ) (part : Region) (aligned : IsAligned n part) → k ≤ part.dim → (i : ℕ) → i < 2 ^ (part.dim - k) → part.base / 2 ^ k + i < 2 ^ (n - k)
-number_fits n k part aligned fits i less = omega (arith, less, first_is n k part aligned fits, numbers_in n k part aligned fits)
 
 -- ---- halves
 
@@ -253,39 +160,6 @@ module _ (w : Sched) (b : Layout) (k : Shows w b) where
       → IfNone o ((d : ℕ) → d ≤ w.dim → HasNone w.dim d (IsVacantBeside w avoid))
   none_beside_at_all n avoid dims None none = λ d d_in. none_beside w b k n d dims avoid (none d (omega (arith, d_in, dims, k.dim)))
   none_beside_at_all n avoid dims (Some l) none = none
-
--- what is free apart from a block is free
-pub none_apart_of : (n k : ℕ) (held : Holdings) (avoid : Region) → HasNoFit n k held → HasNoneApart n k held avoid
-none_apart_of n k held avoid none m within apart free = none m within free
-
--- a block that was found
-pub apart_found : (n l : ℕ) (held : Holdings) (avoid r : Region) → (m : ℕ) × (r ≡ block l m) × IsFirstApart n l held avoid m → HasNoneApart n r.dim held avoid → ⊥
-apart_found n l held avoid r (m, is, first) none =
-    let size : r.dim ≡ l = ap (λ (x : Region). x.dim) is in
-    (subst (λ d. HasNoneApart n d held avoid) size none) m first.in_cube first.apart first.free
-
--- none above what was found, and none at all
-pub none_from : (n largest back : ℕ) (held : Holdings) (avoid : Region) → ((j : ℕ) → largest < j → j ≤ n → HasNoFit n j held)
-    → ((j : ℕ) → largest < j + back → j ≤ largest → HasNoneApart n j held avoid) → (j : ℕ) → largest < j + back → j ≤ n → HasNoneApart n j held avoid
-none_from n largest back held avoid larger below j from fits = elim (cases_lt largest j) [
-  | inl more ↦ none_apart_of n j held avoid (larger j more fits)
-  | inr less ↦ below j from less
-]
-
-pub next_none : (n largest back : ℕ) (held : Holdings) (avoid : Region) → ((j : ℕ) → largest < j + back → j ≤ largest → HasNoneApart n j held avoid)
-    → back ≤ largest → HasNoneApart n (largest - back) held avoid → (j : ℕ) → largest < j + (back + 1) → j ≤ largest → HasNoneApart n j held avoid
-next_none n largest back held avoid below within here j from fits = elim (cases_lt largest (j + back)) [
-  | inl more ↦ below j more fits
-  | inr less ↦
-      let is : largest - back ≡ j = omega (arith, from, less, within) in
-      subst (λ d. HasNoneApart n d held avoid) is here
-]
-
--- the block as the code computes it
-pub nth_is : (n k m : ℕ) → n ≤ MAX_BITMAP_DIM → k ≤ n → m < 2 ^ (n - k) → ◌≡◌ {A = Region} (record { base = m * 2 ^ k % 2 ^ 64; dim = k }) (block k m)
-nth_is n k m limit fits within =
-    let small : m * 2 ^ k % 2 ^ 64 ≡ m * 2 ^ k = shl_whole m (n - k) k 64 within (omega (arith, limit, fits)) in
-    ap (λ (x : ℕ). record { base = x; dim = k }) small
 
 -- the machine as one block
 root_is : (n : ℕ) → block n 0 ≡ record { base = 0; dim = n }

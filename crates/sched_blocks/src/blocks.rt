@@ -12,7 +12,6 @@ ghost use Rattle.sched_law.specs.Policy.{Chooses, HasNone, HasUsable, HasUsableI
 ghost use Rattle.sched_blocks.specs.Shows.{Shows};
 
 use crate::nodes::{lower, node_of, note_idle, note_use, upper};
-use crate::parts::{has_free_in, largest_apart};
 use block_trees::{end_at, is_earlier, open};
 use cube_shape::{MAX_BITMAP_DIM, Region};
 use fit_tree::FitTree;
@@ -236,7 +235,7 @@ impl Blocks {
         ensures none { (w : Sched) → Shows w self.now → IfNone result ((k : ℕ)
             → k ≤ w.dim → HasNone w.dim k (IsVacantBeside w avoid)) }
     {
-        largest_apart(&self.used, avoid)
+        self.used.largest_apart(avoid)
     }
 
     /// Returns the block of dimension `k` to reserve, if there is a usable one. The way down from
@@ -285,10 +284,10 @@ impl Blocks {
     {
         let lower = lower(part);
         let upper = upper(self.dim, part);
-        if !has_free_in(&self.out, k, upper) {
+        if !self.out.has_fit_in(k, upper) {
             return lower;
         }
-        if !has_free_in(&self.out, k, lower) {
+        if !self.out.has_fit_in(k, lower) {
             return upper;
         }
         let low = node_of(self.dim, lower);

@@ -8,7 +8,6 @@
 mod blocks;
 mod law;
 mod nodes;
-mod parts;
 
 pub use blocks::Blocks;
 pub use cube_shape::{MAX_BITMAP_DIM, Region};
