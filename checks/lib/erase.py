@@ -234,8 +234,8 @@ def exported(crate, homes, name, parameters, head):
 class Eraser:
     """What is known of a crate while its files are erased."""
 
-    def __init__(self, crate, droppable, unused=UNUSED):
-        self.crate, self.droppable, self.unused = crate, droppable, unused
+    def __init__(self, crate, droppable, unused=UNUSED, apart=()):
+        self.crate, self.droppable, self.unused, self.apart = crate, droppable, unused, apart
         self.file, self.is_for_c, self.derived, self.drops, self.exports = "", False, [], [], []
         self.homes = {}
 
@@ -465,7 +465,7 @@ class Eraser:
             return None
         if name == "crate":
             out.append(token(f"{SOURCE}::{self.crate}"))
-        elif name in CRATES or name in TREE:
+        elif name in CRATES or name in TREE or name in self.apart:
             out.append(token(f"{SOURCE}::{name}"))
         elif name in KIT_CRATES:
             out.append(token(f"{KIT}::{name}"))
@@ -576,10 +576,11 @@ def erased_crate(crate):
     return erased_files(crate, {it: files[it] for it in files if it != "tests" and f"{crate}/{it}" not in UNUSED})
 
 
-def erased_files(crate, files, unused=UNUSED):
-    """Returns the erased texts of these sources of a crate by their names, and the eraser that has read them."""
+def erased_files(crate, files, unused=UNUSED, apart=()):
+    """Returns the erased texts of these sources of a crate by their names, and the eraser that has read them. The crates
+    apart are known, too."""
     droppable = {it for text in files.values() for it in re.findall(r"\bimpl(?:<[^{]*?>)? Drop for (\w+)", text)}
-    eraser, made = Eraser(crate, droppable, unused), {}
+    eraser, made = Eraser(crate, droppable, unused, apart), {}
     for file, text in files.items():
         name = f"{crate}/{file}"
         eraser.file, eraser.homes = name, homes_of(text)
@@ -600,6 +601,12 @@ def erased_tree(crate):
     for pattern, instead in LEFT_OUT:
         files = {it: re.sub(pattern, instead, text, flags=re.S) for it, text in files.items()}
     return erased_files(crate, files, ())[0]
+
+
+def erased_apart(crate, crates):
+    """Returns the erased files of a crate by their names. Its paths lead to these crates, which are not in CRATES."""
+    files = {it: text for it, text in sources_below(f"crates/{crate}/src").items() if it != "tests"}
+    return erased_files(crate, files, (), crates)[0]
 
 
 def erased_all():
