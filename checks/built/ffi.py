@@ -24,7 +24,7 @@ import subprocess
 import tempfile
 from typing import NamedTuple, Sequence
 
-from checks.built import archive, batch, misuse, pinjobs, preload, static, wait_faults
+from checks.built import archive, batch, event_loop, misuse, pinjobs, preload, static, wait_faults
 from checks.lib import erase
 from checks.lib.repository import files_below, path, read
 from checks.lib.rows import Row, Skipped, answer, must, put, run_rows
@@ -346,11 +346,12 @@ def rows(room, longer, seconds):
     yield from rows_of_waits(room)
     yield from rows_of_owners(room, longer)
     yield from misuse.rows(room, *(f"{room}/lib{it}.a" for it in (REGIONS, DISPATCH, FIT)))
-    for compiler in (CHECKED, [*CLANG[:2], "-xc"]):
-        program = Program("examples/pinjobs.c", [FIT], compiler)
-        yield Row(f"{program.source} by {' '.join(compiler)}", pinjobs.must_work, (room, program))
-    for what, old, new in pinjobs.WRONG_PROGRAMS:
-        yield Row(f"{what}: it is seen", pinjobs.must_see, (room, Program("examples/pinjobs.c", [FIT], C), old, new))
+    for source, example in (("examples/pinjobs.c", pinjobs), ("examples/event_loop.c", event_loop)):
+        for compiler in (CHECKED, [*CLANG[:2], "-xc"]):
+            program = Program(source, [PLAN], compiler)
+            yield Row(f"{source} by {' '.join(compiler)}", example.must_work, (room, program))
+        for what, old, new in example.WRONG_PROGRAMS:
+            yield Row(f"{what}: it is seen", example.must_see, (room, Program(source, [PLAN], C), old, new))
     for program in programs(longer):
         yield Row(f"{program.source} by {' '.join(program.compiler)}", must_run, (room, program))
     yield from rows_of_fit(room)

@@ -22,7 +22,7 @@ from checks.lib.rows import Row, Skipped, answer, must, output, run_rows
 
 HERE, MODULE = path("checks", "built", "python"), path("python")
 DOCTEST = "import cubejobs, doctest; failed, tried = doctest.testmod(cubejobs); print(tried); raise SystemExit(failed)"
-EXAMPLES = ("processes.py",)
+EXAMPLES = ("day.py", "processes.py")
 SECONDS = 900
 # How many random programs run of each kind, and how many calls each makes: in the gate, and at length.
 GATE, LONG = (2, 50_000), (10, 300_000)
