@@ -146,7 +146,7 @@ fn a_block_without_a_known_end_is_reserved_after_the_patience() {
         assert_eq!(planner.forecast(whole), Some(Forecast::Waits { before: 0 }));
         assert_eq!(planner.finish(passing), Ok(2));
     }
-    let refused = submit(&mut planner, Request::new(1), 3);
+    let refused = submit(&mut planner, Request::new(1).estimate(1), 3);
     assert_eq!(started(&mut planner, 0), []);
     let reserved = Forecast::Reserved { region: block(0, 1), promise: None };
     assert_eq!(planner.forecast(whole), Some(reserved));
