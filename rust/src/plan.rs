@@ -633,7 +633,7 @@ impl fmt::Display for EndError {
     fn fmt(&self, f: &mut fmt::Formatter<'_>) -> fmt::Result {
         f.write_str(match self {
             EndError::NoJob => "the job is over",
-            EndError::WrongState => "the job runs and is not to be cancelled, or waits and cannot end",
+            EndError::WrongState => "the job runs and cannot be cancelled, or it waits and cannot end",
         })
     }
 }
