@@ -48,7 +48,7 @@ mod event;
 pub mod fit;
 #[cfg_attr(not(cubejobs_archives), path = "over/fit_ffi.rs")]
 mod fit_ffi;
-#[cfg(all(doctest, feature = "dispatch", feature = "regions"))]
+#[cfg(all(doctest, feature = "dispatch", feature = "plan", feature = "regions"))]
 mod forbidden;
 #[cfg(feature = "regions")]
 mod handles;

@@ -266,8 +266,8 @@ fn each_answer_is_that_of_the_rules() {
     let (events, seed) = (number("PLAN_EVENTS", EVENTS), number("PLAN_SEED", 1));
     let mut player = Player::new(seed);
     for event in 0..events {
-        let played = std::panic::catch_unwind(std::panic::AssertUnwindSafe(|| player.event()));
-        assert!(played.is_ok(), "at event {event} of the seed {seed}");
+        let ended = std::panic::catch_unwind(std::panic::AssertUnwindSafe(|| player.event()));
+        assert!(ended.is_ok(), "at event {event} of the seed {seed}");
     }
     let Seen { starts, passes, promises, unknown_promises, late, full, out } = player.seen;
     let counts = [passes, promises, unknown_promises, late, full, out];
