@@ -9,7 +9,7 @@
 //! | threads, and any number of blocks | `regions::Machine`, in the default feature `regions` |
 //! | jobs for worker threads, each with a block | `dispatch::Dispatcher`, in `dispatch` |
 //! | jobs for worker threads | `lanes::Lanes`, in the default feature `dispatch` |
-//! | jobs that wait in order, and start where there is room | `plan::Planner`, in `plan` |
+//! | jobs that wait until there is room for them | `plan::Planner`, in the default feature `plan` |
 //! | one thread, or threads under your lock | [`fit::FirstFit`], exact first fit |
 //! | the same, in memory that processes share | [`fit::FirstFit`] over a slice |
 //! | messages of your own between ranks | [`rounds::Collective`] |

@@ -148,8 +148,8 @@ pub enum Forecast {
     Reserved {
         /// The reserved block.
         region: Region,
-        /// The latest estimated end of the jobs in the block, or 0 if none is there. It is `None` if
-        /// one of them has no known end.
+        /// The latest estimated end of the jobs in the block, or 0 if none is there. It is `None`
+        /// if one of them has no known end.
         promise: Option<u64>,
     },
     /// It waits, and no block is reserved for it.
