@@ -41,7 +41,8 @@ WORD = re.compile(r'"(?:[^"\\]|\\.)*"|\'[a-z]\w*\b(?!\')|\w+|::|->|=>|\S')
 OPENS, CLOSES = "([{", ")]}"
 # What the eraser may put in, besides names of paths.
 PUT_IN = [WORD.findall(it) for it in (
-    "pub(crate)", "let alloc = Global;", '#[must_use = "the proved source spends each value of this type by a call"]')]
+    "pub(crate)", "let alloc = Global;", *(f'#[cfg(feature = "{it}")]' for it in erase.GATED.values()),
+    '#[must_use = "the proved source spends each value of this type by a call"]')]
 PRELUDE = re.compile(r"use std::prelude::\{[\w, ]+\};")
 # Forms that the eraser must refuse.
 REFUSED = (

@@ -12,6 +12,7 @@ pub mod heap;
 pub mod opaque;
 #[cfg(feature = "dispatch")]
 pub mod snapshot;
+#[cfg(any(feature = "dispatch", feature = "regions"))]
 pub mod sync;
 
 /// The names that are known everywhere in the proved sources.

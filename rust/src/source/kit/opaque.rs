@@ -1,7 +1,6 @@
 //! The content of a handle, or nothing. It is one pointer, which C may see.
 
-use super::alloc::Global;
-use super::heap::Box;
+use super::{alloc::Global, heap::Box};
 
 /// The content of a handle, or nothing.
 #[repr(transparent)]

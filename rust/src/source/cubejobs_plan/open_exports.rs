@@ -1,0 +1,78 @@
+// Made from crates/cubejobs_plan/src/open_exports.rt by checks/lib/erase.py. Change that file.
+//! The functions of the library that open and close a planner, under the names that C declares.
+
+use crate::source::cubejobs_plan::codes::{
+    ALREADY_OPEN, BAD_VERSION, DONE, NOT_OPEN, OUT_OF_MEMORY, OUT_OF_RANGE, VERSION,
+};
+use crate::source::cubejobs_plan::handle::Handle;
+use crate::source::cubejobs_plan::opening::{bytes, opened};
+use crate::source::cubejobs_plan::options::{Options, are_in_range};
+use crate::source::cubejobs_plan::places::lift;
+use crate::source::kit::alloc::Global;
+
+/// Returns how many bytes a planner needs, or 0 if an option is out of range.
+///
+/// # Clauses of the proved source
+///
+/// - ensures none: `(IsInRange options → ⊥) → result ≡ 0`
+/// - ensures some: `IsInRange options → result ≡ bytes_of options.dim options.jobs`
+pub fn cubejobs_plan_bytes(options: Options) -> u64 {
+    if !are_in_range(options) {
+        return 0;
+    }
+    bytes(options)
+}
+
+/// Opens a planner without jobs, at time 0. `version` is that of the caller's header. `memory` is
+/// an address, and must be 0: the planner takes its own memory.
+///
+/// # Clauses of the proved source
+///
+/// - ensures bad_version: `version ≢ VERSION → result ≡ BAD_VERSION`
+/// - ensures already_open: `version ≡ VERSION → IsSome (core_of plan.old) → result ≡ ALREADY_OPEN`
+/// - ensures out_of_range: `version ≡ VERSION → core_of plan.old ≡ None → (IsInRange options → ⊥) ⊎ (memory ≢ 0) → result ≡ OUT_OF_RANGE`
+/// - ensures else_memory: `version ≡ VERSION → core_of plan.old ≡ None → IsInRange options → memory ≡ 0 → (result ≡ DONE) ⊎ (result ≡ OUT_OF_MEMORY)`
+/// - ensures new: `result ≡ DONE → OnCore (IsNew options) (core_of plan.new)`
+/// - ensures unchanged: `result ≢ DONE → plan.new ≡ plan.old`
+pub fn cubejobs_plan_open_version(plan: &mut Handle,
+    version: u32,
+    options: Options,
+    memory: usize,
+) -> u32 {
+    let alloc = Global;
+    if version != VERSION {
+        return BAD_VERSION;
+    }
+    if plan.is_open() {
+        return ALREADY_OPEN;
+    }
+    if !are_in_range(options) {
+        return OUT_OF_RANGE;
+    }
+    if memory != 0 {
+        return OUT_OF_RANGE;
+    }
+    match opened(alloc, options) {
+        None => OUT_OF_MEMORY,
+        Some(place) => {
+            plan.put(place);
+            DONE
+        }
+    }
+}
+
+/// Shuts the handle, and frees its planner with all its jobs.
+///
+/// # Clauses of the proved source
+///
+/// - ensures not_open: `core_of plan.old ≡ None → result ≡ NOT_OPEN`
+/// - ensures done: `IsSome (core_of plan.old) → result ≡ DONE`
+/// - ensures shut: `core_of plan.new ≡ None`
+/// - ensures unchanged: `result ≢ DONE → plan.new ≡ plan.old`
+pub fn cubejobs_plan_close(plan: &mut Handle) -> u32 {
+    let alloc = Global;
+    let Some(_place) = lift(plan, alloc) else {
+        return NOT_OPEN;
+    };
+    DONE
+}
