@@ -1,5 +1,5 @@
-//! Allocators of aligned blocks, and queues of jobs: safe Rust over the proved libraries of
-//! cubejobs.
+//! Allocators of aligned blocks, queues of jobs, and a planner of jobs in blocks: safe Rust over
+//! the proved libraries of cubejobs.
 //!
 //! A machine of dimension `n` has the processors `0` to `2^n - 1`. A block (a [`Region`]) of
 //! dimension `k` is `2^k` processors in a row, from a multiple of `2^k` on.
