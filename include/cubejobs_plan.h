@@ -69,6 +69,9 @@ enum cubejobs_plan_code {
     CUBEJOBS_PLAN_TIME_BACK = 48      /* The time is before that of the last call. */
 };
 
+/* The structs are those of the library only if an enum has 32 bits. */
+typedef char cubejobs_plan_code_has_32_bits[sizeof(enum cubejobs_plan_code) == 4 ? 1 : -1];
+
 /* Where a job is. */
 enum cubejobs_plan_state {
     CUBEJOBS_PLAN_WAITS = 1,    /* It waits, and no block is reserved for it. */
@@ -117,7 +120,7 @@ struct cubejobs_plan_request {
  *   - before: how many waiting jobs come before it. It is 0 for a job that runs or is reserved;
  *   - arrival: how many jobs were submitted before it. */
 struct cubejobs_plan_job {
-    uint32_t code;
+    enum cubejobs_plan_code code;
     uint32_t state;
     uint64_t ticket;
     uint64_t payload;
@@ -130,14 +133,15 @@ struct cubejobs_plan_job {
     uint32_t job_class;
 };
 
-/* What a planner has. All is 0 unless the code is CUBEJOBS_PLAN_DONE.
+/* What a planner has. All is 0 unless the code is CUBEJOBS_PLAN_DONE. C++ needs the word `struct`
+ * before its name, which is that of a function too.
  *   - waiting, running: how many jobs wait, also with a reservation, and how many run;
  *   - held: how many processors no other job can have since a job runs;
  *   - asked: how many processors the running jobs asked for;
  *   - occupied: how many processors are out of service;
  *   - largest: the most processors that one job could get now, if no other waited. */
 struct cubejobs_plan_counts {
-    uint32_t code;
+    enum cubejobs_plan_code code;
     uint32_t waiting;
     uint32_t running;
     uint32_t held;
@@ -153,14 +157,16 @@ struct cubejobs_plan_counts {
 uint64_t cubejobs_plan_bytes(struct cubejobs_plan_options options);
 
 /* Does what cubejobs_plan_open does, which passes the version of this header. */
-CUBEJOBS_NODISCARD uint32_t cubejobs_plan_open_version(struct cubejobs_plan *plan, uint32_t version,
-                                                       struct cubejobs_plan_options options, void *memory);
+CUBEJOBS_NODISCARD enum cubejobs_plan_code cubejobs_plan_open_version(struct cubejobs_plan *plan, uint32_t version,
+                                                                      struct cubejobs_plan_options options,
+                                                                      void *memory);
 
 /* Opens a planner without jobs, at time 0. It takes all its memory now. `memory` is null: this
  * version takes no memory of yours. Codes: BAD_VERSION, ALREADY_OPEN, OUT_OF_RANGE (an option, or
  * `memory`), OUT_OF_MEMORY, DONE. */
-CUBEJOBS_NODISCARD CUBEJOBS_INLINE uint32_t cubejobs_plan_open(struct cubejobs_plan *plan,
-                                                               struct cubejobs_plan_options options, void *memory) {
+CUBEJOBS_NODISCARD CUBEJOBS_INLINE enum cubejobs_plan_code cubejobs_plan_open(struct cubejobs_plan *plan,
+                                                                              struct cubejobs_plan_options options,
+                                                                              void *memory) {
     return cubejobs_plan_open_version(plan, CUBEJOBS_PLAN_VERSION, options, memory);
 }
 
@@ -180,11 +186,11 @@ struct cubejobs_plan_job cubejobs_plan_finish(struct cubejobs_plan *plan, uint64
  * jobs in it first. Occupy it before you ask for the next job. A reservation of a part of it ends.
  * Codes: NOT_OPEN, OUT_OF_RANGE (there is no such block), WRONG_STATE (a part is held or
  * occupied), DONE. */
-uint32_t cubejobs_plan_occupy(struct cubejobs_plan *plan, uint64_t base, uint32_t dim);
+enum cubejobs_plan_code cubejobs_plan_occupy(struct cubejobs_plan *plan, uint64_t base, uint32_t dim);
 
 /* Puts exactly a block that was occupied back into service. Codes: NOT_OPEN, OUT_OF_RANGE (there is
  * no such block), WRONG_STATE (no call has occupied this block), DONE. */
-uint32_t cubejobs_plan_vacate(struct cubejobs_plan *plan, uint64_t base, uint32_t dim);
+enum cubejobs_plan_code cubejobs_plan_vacate(struct cubejobs_plan *plan, uint64_t base, uint32_t dim);
 
 /* Starts one job at this time, or says that none may start. Codes: NOT_OPEN, OUT_OF_RANGE (the time
  * is NEVER), TIME_BACK, NO_JOB, DONE. */
@@ -199,11 +205,18 @@ struct cubejobs_plan_job cubejobs_plan_forecast(struct cubejobs_plan *plan, uint
  * DONE. */
 struct cubejobs_plan_job cubejobs_plan_after(struct cubejobs_plan *plan, uint64_t ticket);
 
+#if defined(__cplusplus) && defined(__GNUC__)
+#pragma GCC diagnostic push
+#pragma GCC diagnostic ignored "-Wshadow"
+#endif
 /* Counts what the planner has. Codes: NOT_OPEN, DONE. */
 struct cubejobs_plan_counts cubejobs_plan_counts(struct cubejobs_plan *plan);
+#if defined(__cplusplus) && defined(__GNUC__)
+#pragma GCC diagnostic pop
+#endif
 
 /* Shuts the handle, and frees the planner with all its jobs. Codes: NOT_OPEN, DONE. */
-uint32_t cubejobs_plan_close(struct cubejobs_plan *plan);
+enum cubejobs_plan_code cubejobs_plan_close(struct cubejobs_plan *plan);
 
 #ifdef __cplusplus
 }
