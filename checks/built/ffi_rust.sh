@@ -61,7 +61,7 @@ batch() {
 # is cancelled, so the order of what it shows is known.
 event_loop() {
     quiet cargo build --quiet --offline "$@" --example event_loop
-    "$CARGO_TARGET_DIR/debug/examples/event_loop" < "$work/lines" > "$work/shown" 2> "$work/said" \
+    "$CARGO_TARGET_DIR/debug/examples/event_loop" 2 < "$work/lines" > "$work/shown" 2> "$work/said" \
         || { echo "ffi: event_loop fails:"; cat "$work/said"; exit 1; }
     cat "$work/shown" "$work/said" | diff "$work/wanted" - > "$work/log" \
         || { echo "ffi: event_loop, wanted and shown:"; cat "$work/log"; exit 1; }
@@ -106,35 +106,37 @@ refused 'Error: "line 2: the dimension is a number from 0 to 4"' \
 printf '1 5\n\n' > "$work/wrong"
 refused 'Error: "line 2: a job is DIM MILLISECONDS"' \
     cargo run --quiet --offline --example batch -- "$work/wrong" < /dev/null
-echo "until grep -q '^job 2 is cancelled' '$work/shown'; do sleep 0.01; done" > "$work/wait"
 cat > "$work/lines" << END
-4 0 sh $work/wait
-2 9 no_such_program
-3 0 sh -c exit
-4 1 false
+4 0 until grep -q '^2 is cancelled' '$work/shown'; do sleep 0.01; done
+2 9 true
+3 0 exit 7
+4 1 echo "on \$CUBEJOBS_PROCESSORS"
 5 1 true
 1 1
+x 1 true
 
 cancel 5
 cancel 1
 cancel 2
-4 0 no_such_program
+4 0 kill \$\$
 END
 cat > "$work/wanted" << 'END'
-job 1 starts on 4 processors from 0 on
-job 2 is cancelled
-job 1 has ended
-job 3 starts on 3 processors from 0 on
-job 3 has ended
-job 4 starts on 4 processors from 0 on
-job 4 has failed: exit status: 1
-job 5 starts on 4 processors from 0 on
-job 5 has failed: No such file or directory (os error 2)
-"5 1 true": the number of processors or the class is out of range
-"1 1": a line has too few words
-"": a line has no words
-"cancel 5": no such job
-"cancel 1": the job runs and cannot be cancelled, or it waits and cannot end
+1 starts on 0-3
+2 is cancelled
+1 ends with 0
+3 starts on 0-2
+3 ends with 7
+4 starts on 0-3
+on 0-3
+4 ends with 0
+5 starts on 0-3
+5 was ended by a signal
+'5 1 true': the number of processors or the class is out of range
+'1 1': there is no command
+'x 1 true': invalid digit found in string
+'': there is no command
+'cancel 5': no such job
+'cancel 1': the job runs and cannot be cancelled, or it waits and cannot end
 END
 event_loop
 echo "ffi: the tests, documents and examples of the Rust package pass, with no warning"

@@ -35,7 +35,7 @@ TEXTS = "cubejobs_codes.h"
 OTHERS = {"cubejobs_plan.h": ("FULL", "NO_JOB")}
 # Where the Rust package has numbers of codes, and the header that they are of.
 IN_RUST = {"fit_ffi.rs": "cubejobs_fit.h", "regions_ffi.rs": "cubejobs_regions.h", "dispatch_ffi.rs": "cubejobs_dispatch.h",
-           "rounds_ffi.rs": "cubejobs_rounds.h"}
+           "rounds_ffi.rs": "cubejobs_rounds.h", "plan_ffi.rs": "cubejobs_plan.h"}
 # The outcomes of the page that are codes of cubejobs_fit.h.
 IN_PAGE = {"given": "DONE", "freed": "DONE", "nosubcube": "NO_ROOM"}
 CONSTANT = re.compile(r"^pub const ([A-Z_]+): u32 = (\d+);", re.M)
