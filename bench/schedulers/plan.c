@@ -8,11 +8,11 @@
  * jobs of 1 to 4 processors, or `mixed`: of ten jobs six have 1 to 4, three 5 to 32, one 33 to 512, and of a thousand one
  * has half of the machine.
  *
- * First it plays WARM jobs and twice ROUNDS rounds of JOBS jobs, and notes all calls. It prints `ready` and a sum over
- * all starts. Then it plays the WARM jobs again. For each line that it reads it makes the calls of one round: in turn
- *   job P          P is the nanoseconds of all calls for one job: a submit, a finish, and each call for the next start
- *   next P Q M     the median, the 99th percentile and the mean of single calls for the next start
- * The starts must be those of the first time.
+ * First it plays WARM jobs and twice ROUNDS rounds of JOBS jobs, and notes all calls. Then it plays the WARM jobs again,
+ * and prints `ready` and a sum over their starts. For each line that it reads it makes the calls of one round: in turn
+ *   job S P        P is the nanoseconds of all calls for one job: a submit, a finish, and each call for the next start
+ *   next S P Q     the median and the 99th percentile of single calls for the next start
+ * S is a sum over all starts so far, which must be those of the first time.
  *
  * `plan memory DIM JOBS WAITING` opens a scheduler for JOBS jobs, submits WAITING, and prints how many bytes it took. */
 #include <inttypes.h>
@@ -197,7 +197,8 @@ static void time_jobs(const struct call *from, const struct call *end, uint32_t 
     for (const struct call *call = from; call < end; call++) {
         make_call(call);
     }
-    printf("job %.1f\n", (double)(nanoseconds() - began) / jobs);
+    double all = (double)(nanoseconds() - began);
+    printf("job %" PRIu64 " %.1f\n", sum, all / jobs);
 }
 
 static int by_size(const void *a, const void *b) {
@@ -207,7 +208,7 @@ static int by_size(const void *a, const void *b) {
 
 static void time_nexts(const struct call *from, const struct call *end) {
     static uint64_t *samples;
-    uint64_t nothing = ticks_of_nothing(), began = nanoseconds(), first = ticks(), all = 0;
+    uint64_t nothing = ticks_of_nothing(), began = nanoseconds(), first = ticks();
     size_t count = 0;
     samples = room_for(samples, (size_t)(end - from) + 1, sizeof *samples);
     for (const struct call *call = from; call < end; call++) {
@@ -216,13 +217,12 @@ static void time_nexts(const struct call *from, const struct call *end) {
         uint64_t own = ticks() - start;
         if (call->kind == NEXT) {
             samples[count++] = own > nothing ? own - nothing : 0;
-            all += samples[count - 1];
         }
     }
     double scale = (double)(nanoseconds() - began) / (double)(ticks() - first);
     qsort(samples, count, sizeof *samples, by_size);
-    printf("next %.1f %.1f %.1f\n", (double)samples[count / 2] * scale, (double)samples[count - 1 - count / 100] * scale,
-           (double)all / (double)count * scale);
+    printf("next %" PRIu64 " %.1f %.1f\n", sum, (double)samples[count / 2] * scale,
+           (double)samples[count - 1 - count / 100] * scale);
 }
 
 /* Notes the calls of all rounds: where each begins, and the sum at its end. */
@@ -297,10 +297,10 @@ int main(int word_count, char **words) {
     begin(at_once);
     play(warm);
     note_rounds(jobs, rounds, begins, sums);
-    printf("ready %" PRIu64 "\n", sum);
     close_scheduler(&scheduler);
     begin(at_once);
     play(warm);
+    printf("ready %" PRIu64 "\n", sum);
     fflush(stdout);
     return play_rounds(jobs, rounds, begins, sums);
 }
