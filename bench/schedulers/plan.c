@@ -11,7 +11,8 @@
  * First it plays WARM jobs and twice ROUNDS rounds of JOBS jobs, and notes all calls. Then it plays the WARM jobs again,
  * and prints `ready` and a sum over their starts. For each line that it reads it makes the calls of one round: in turn
  *   job S P        P is the nanoseconds of all calls for one job: a submit, a finish, and each call for the next start
- *   next S P Q     the median and the 99th percentile of single calls for the next start
+ *   next S P Q R   the medians of single calls that start a job and of those that start none, and the 99th percentile
+ *                  of both together
  * S is a sum over all starts so far, which must be those of the first time.
  *
  * `plan memory DIM JOBS WAITING` opens a scheduler for JOBS jobs, submits WAITING, and prints how many bytes it took. */
@@ -206,23 +207,43 @@ static int by_size(const void *a, const void *b) {
     return (one > other) - (one < other);
 }
 
+/* Times of single calls, in ticks. */
+struct samples {
+    uint64_t *all;
+    size_t count;
+};
+
+/* Returns the sample below which this many hundredths lie, or 0 if there is none. */
+static uint64_t percentile(struct samples *it, unsigned hundredths) {
+    qsort(it->all, it->count, sizeof *it->all, by_size);
+    return it->count > 0 ? it->all[(it->count - 1) * hundredths / 100] : 0;
+}
+
+static void add_sample(struct samples *it, uint64_t ticks) {
+    it->all[it->count++] = ticks;
+}
+
 static void time_nexts(const struct call *from, const struct call *end) {
-    static uint64_t *samples;
+    struct samples kinds[3] = {{NULL, 0}, {NULL, 0}, {NULL, 0}};
     uint64_t nothing = ticks_of_nothing(), began = nanoseconds(), first = ticks();
-    size_t count = 0;
-    samples = room_for(samples, (size_t)(end - from) + 1, sizeof *samples);
+    for (unsigned i = 0; i < 3; i++) {
+        kinds[i].all = room_for(NULL, (size_t)(end - from) + 1, sizeof *kinds[i].all);
+    }
     for (const struct call *call = from; call < end; call++) {
-        uint64_t start = ticks();
+        uint64_t before = sum, start = ticks();
         make_call(call);
-        uint64_t own = ticks() - start;
+        uint64_t all = ticks() - start, own = all > nothing ? all - nothing : 0;
         if (call->kind == NEXT) {
-            samples[count++] = own > nothing ? own - nothing : 0;
+            add_sample(&kinds[0], own);
+            add_sample(&kinds[sum != before ? 1 : 2], own);
         }
     }
     double scale = (double)(nanoseconds() - began) / (double)(ticks() - first);
-    qsort(samples, count, sizeof *samples, by_size);
-    printf("next %" PRIu64 " %.1f %.1f\n", sum, (double)samples[count / 2] * scale,
-           (double)samples[count - 1 - count / 100] * scale);
+    printf("next %" PRIu64 " %.1f %.1f %.1f\n", sum, (double)percentile(&kinds[1], 50) * scale,
+           (double)percentile(&kinds[2], 50) * scale, (double)percentile(&kinds[0], 99) * scale);
+    for (unsigned i = 0; i < 3; i++) {
+        free(kinds[i].all);
+    }
 }
 
 /* Notes the calls of all rounds: where each begins, and the sum at its end. */
