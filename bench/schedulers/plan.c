@@ -129,7 +129,7 @@ static void add_start(const struct start *start) {
     sum = sum * 31 + start->base * 7 + start->payload;
 }
 
-/* Plays until so many jobs were started: ends of jobs, starts, and submits of others instead. */
+/* Plays until this many jobs were started: ends of jobs, starts, and submits of others instead. */
 static void play(uint32_t until) {
     struct start start;
     while (started < until) {
@@ -284,7 +284,7 @@ static size_t bytes_in_use(void) {
     return info.uordblks + info.hblkhd;
 }
 
-/* Prints the bytes of a scheduler for so many jobs. */
+/* Prints the bytes of a scheduler for this many jobs. */
 static int print_memory(char **words) {
     uint32_t jobs = number_of(words[1]), waiting = number_of(words[2]);
     dim = number_of(words[0]);

@@ -1,7 +1,7 @@
 /* What all schedulers of this folder have in common. A program includes one of them by -DSCHEDULER, as
  * bench/peers/fit.c does. Each has these functions over its `struct scheduler`:
  *
- *   open_scheduler(s, dim, jobs, patience)  opens a machine without jobs, for at most so many at once
+ *   open_scheduler(s, dim, jobs, patience)  opens a machine without jobs, for at most this many at once
  *   submit_job(s, request)                  returns the ticket of a job that waits from now on
  *   start_next(s, now, &start)              starts one job, or returns false if none may start
  *   finish_job(s, ticket)                   ends a running job

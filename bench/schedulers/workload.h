@@ -88,7 +88,7 @@ static double arrived_by(double time) {
     return time + 0.6 / turn * (sin(turn * (time - noon)) + sin(turn * noon));
 }
 
-/* Returns the time until which so many jobs have come. */
+/* Returns the time until which this many jobs have come. */
 static double time_of(double arrived, double span) {
     double low = 0, high = span;
     for (unsigned i = 0; i < 50; i++) {
