@@ -99,7 +99,8 @@ static double time_of(double arrived, double span) {
 }
 
 /* Makes the tasks of a machine of dimension n, whose blocks together are `load` times the machine. */
-static struct task *make_tasks(unsigned n, uint32_t count, double load, uint64_t seed, enum estimates kind, unsigned classes) {
+static struct task *make_tasks(unsigned n, uint32_t count, double load, uint64_t seed, enum estimates kind,
+                               unsigned classes) {
     struct task *tasks = room_for(NULL, count, sizeof *tasks);
     double *gaps = room_for(NULL, count, sizeof *gaps), work = 0, all = 0;
     random_state = seed * 0x9E3779B97F4A7C15u + 88172645463325252u;
