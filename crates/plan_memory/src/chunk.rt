@@ -40,7 +40,8 @@ impl Chunk {
 
     /// Makes an empty vector with room for this many values of the words.
     pub fn lodge<T>(self, count: usize) -> Vec<T, Lodged>
-        requires { (0 < count) × FitsWords T.row count self.words }
+        requires { (0 < count) × (count < 2 ^ 63) × (0 < self.words)
+            × FitsWords T.row count self.words }
         ensures { (result.items ≡ []) × (vec_capacity result ≡ count) }
     {
         let Chunk { at, words: _ } = self;
