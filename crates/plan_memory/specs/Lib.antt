@@ -1,1 +1,4 @@
+pub mod Fixed
+pub mod Inner
+pub mod Lends
 pub mod Words

@@ -22,6 +22,14 @@ impl Model for Chunk {
 }
 
 impl Chunk {
+    /// Returns how many words there are, and the chunk again.
+    pub fn measured(self) -> (usize, Chunk)
+        ensures { (result.0 ≡ self.words) × (result.1 ≡ self) }
+    {
+        let Chunk { at, words } = self;
+        (words, Chunk { at, words })
+    }
+
     /// Cuts the first words off. Returns them, and the words after them.
     pub fn split(self, words: usize) -> (Chunk, Chunk)
         requires { (0 < words) × (words ≤ self.words) }
