@@ -12,7 +12,7 @@ use types.Kit.{‵, raw, ◌⊛◌, ◌$◌, ◌∵◌, !, qed, by, use1, split,
 use denote.RawPtr.{block_ptr, room_for}
 use denote.RawPtr.Room.{room_cut, past}
 use Rattle.std_alloc.specs.Vec.Ownership.{has_block, owns_if}
-use Rattle.plan_memory.specs.Words.{words_of, chunk_owns}
+use Rattle.fixed_vec.specs.Words.{words_of, chunk_owns}
 
 abbrev word : Ty
 word = ty_int w64

@@ -22,12 +22,12 @@ use Rattle.core.proofs.alloc.Calls.{Goes-blank}
 use Rattle.std_alloc.proofs.ResultValues.{and_tt}
 use Rattle.std_alloc.proofs.Pairs.{pair_of, pair_val}
 use Rattle.std.proofs.raw_atomic.Walks.{proved_at, leaves}
-use Rattle.plan_memory.proofs.Values.{slot_at, ptr_typed, sized_val, sized_own, sized_told, sized_made}
-use Rattle.plan_memory.specs.contracts.chunk.Chunk as chunk
-use Rattle.plan_memory.specs.contracts.chunk.Chunk.measured.{ended, clauses}
-use Rattle.plan_memory.specs.contracts.chunk.Chunk.measured.Key.{name as #self}
-use Rattle.plan_memory.proofs.chunk.Chunk.measured.Statement.{statement}
-use Rattle.plan_memory.proofs.chunk.Chunk.measured.Code as compiled
+use Rattle.fixed_vec.proofs.Values.{slot_at, ptr_typed, sized_val, sized_own, sized_told, sized_made}
+use Rattle.fixed_vec.specs.contracts.chunk.Chunk as chunk
+use Rattle.fixed_vec.specs.contracts.chunk.Chunk.measured.{ended, clauses}
+use Rattle.fixed_vec.specs.contracts.chunk.Chunk.measured.Key.{name as #self}
+use Rattle.fixed_vec.proofs.chunk.Chunk.measured.Statement.{statement}
+use Rattle.fixed_vec.proofs.chunk.Chunk.measured.Code as compiled
 
 pub measured_spec : {M : Type 1} → statement M
 measured_spec 𝓤 𝓛 𝓜 𝓡 wired =

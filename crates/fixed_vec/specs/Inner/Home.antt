@@ -1,8 +1,8 @@
 -- The values of a vector, wherever they lie.
 use Rattle.std.specs.Prelude.{List}
 use Rattle.std.specs.Vec as vec
-use Rattle.plan_memory.specs.declared.home.Home.{Home}
-use Rattle.plan_memory.specs.declared.home.Home.TheVariants.{Heap, Words}
+use Rattle.fixed_vec.specs.declared.home.Home.{Home}
+use Rattle.fixed_vec.specs.declared.home.Home.TheVariants.{Heap, Words}
 
 module _ {T : Type 0} where
   -- The values.

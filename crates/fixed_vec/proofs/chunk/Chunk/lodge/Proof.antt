@@ -30,14 +30,14 @@ use Rattle.std_alloc.proofs.VecSteps.El.{El, elτ, el_x, R, Vr, sz, args₁, vec
 use Rattle.std_alloc.proofs.VecSteps.Opens.{is_live, vec_had, vec_made}
 use Rattle.std_alloc.proofs.vec.lodge.Met as callee
 use Rattle.std.proofs.raw_atomic.Walks.{proved_at, leaves}
-use Rattle.plan_memory.proofs.Values.{slot_at, sized_val, sized_told}
-use Rattle.plan_memory.proofs.Words.{holds}
-use Rattle.plan_memory.proofs.Lodges.{Lodges, at_lodge, IsLodged, lodge_goes, lodge_gives}
-use Rattle.plan_memory.specs.Words.{words_of, FitsWords}
-use Rattle.plan_memory.specs.contracts.chunk.Chunk.lodge as F
-use Rattle.plan_memory.specs.contracts.chunk.Chunk.lodge.Key.{name as #self}
-use Rattle.plan_memory.proofs.chunk.Chunk.lodge.Statement.{statement}
-use Rattle.plan_memory.proofs.chunk.Chunk.lodge.Code as compiled
+use Rattle.fixed_vec.proofs.Values.{slot_at, sized_val, sized_told}
+use Rattle.fixed_vec.proofs.Words.{holds}
+use Rattle.fixed_vec.proofs.Lodges.{Lodges, at_lodge, IsLodged, lodge_goes, lodge_gives}
+use Rattle.fixed_vec.specs.Words.{words_of, FitsWords}
+use Rattle.fixed_vec.specs.contracts.chunk.Chunk.lodge as F
+use Rattle.fixed_vec.specs.contracts.chunk.Chunk.lodge.Key.{name as #self}
+use Rattle.fixed_vec.proofs.chunk.Chunk.lodge.Statement.{statement}
+use Rattle.fixed_vec.proofs.chunk.Chunk.lodge.Code as compiled
 
 pub lodge_spec : {M : Type 1} → statement M
 lodge_spec 𝓤 𝓛 𝓜 𝓡 wired Y L =

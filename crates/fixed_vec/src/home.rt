@@ -13,8 +13,8 @@ pub(crate) enum Home<T> {
 }
 
 impl<T> Home<T> {
-    ghost use Rattle.plan_memory.specs.Inner.Home.{items_at};
-    ghost use Rattle.plan_memory.specs.Inner.HomeLends.{home_lends_slice};
+    ghost use Rattle.fixed_vec.specs.Inner.Home.{items_at};
+    ghost use Rattle.fixed_vec.specs.Inner.HomeLends.{home_lends_slice};
 
     #[inline]
     pub(crate) fn as_mut_slice(&mut self) -> &mut [T]

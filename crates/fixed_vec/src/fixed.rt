@@ -18,8 +18,8 @@ pub struct FixedVec<T> {
 }
 
 impl<T> Model for FixedVec<T> {
-    ghost use Rattle.plan_memory.specs.Fixed.{Fixed, fixed_code};
-    ghost use Rattle.plan_memory.specs.Inner.Home.{items_at};
+    ghost use Rattle.fixed_vec.specs.Fixed.{Fixed, fixed_code};
+    ghost use Rattle.fixed_vec.specs.Inner.Home.{items_at};
 
     ghost Value = { Fixed T };
 
@@ -29,7 +29,7 @@ impl<T> Model for FixedVec<T> {
 }
 
 impl<T> FixedVec<T> {
-    ghost use Rattle.plan_memory.specs.Lends.{lends_slice};
+    ghost use Rattle.fixed_vec.specs.Lends.{lends_slice};
 
     // Makes a vector on the heap.
     pub(crate) fn on_heap(values: Vec<T>) -> Self
@@ -91,7 +91,7 @@ impl<T> DerefSlice for FixedVec<T> {
 }
 
 impl<T> DerefSliceMut for FixedVec<T> {
-    ghost use Rattle.plan_memory.specs.Lends.{lends_slice};
+    ghost use Rattle.fixed_vec.specs.Lends.{lends_slice};
 
     #[inline]
     fn deref_mut(&mut self) -> &mut [T]

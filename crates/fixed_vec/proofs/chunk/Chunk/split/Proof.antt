@@ -23,14 +23,14 @@ use Rattle.std_alloc.specs.Vec.Ownership.{owns_if, has_block}
 use Rattle.std_alloc.proofs.Pairs.{pair_of, pair_val}
 use Rattle.std_alloc.proofs.VecSteps.Opens.{is_live}
 use Rattle.std.proofs.raw_atomic.Walks.{proved_at, leaves}
-use Rattle.plan_memory.proofs.Values.{slot_at, sized_val, sized_own, sized_told, sized_made}
-use Rattle.plan_memory.proofs.Words.{cuts, owned}
-use Rattle.plan_memory.specs.Words.{words_of, chunk_owns}
-use Rattle.plan_memory.specs.contracts.chunk.Chunk as chunk
-use Rattle.plan_memory.specs.contracts.chunk.Chunk.split.{ended, clauses}
-use Rattle.plan_memory.specs.contracts.chunk.Chunk.split.Key.{name as #self}
-use Rattle.plan_memory.proofs.chunk.Chunk.split.Statement.{statement}
-use Rattle.plan_memory.proofs.chunk.Chunk.split.Code as compiled
+use Rattle.fixed_vec.proofs.Values.{slot_at, sized_val, sized_own, sized_told, sized_made}
+use Rattle.fixed_vec.proofs.Words.{cuts, owned}
+use Rattle.fixed_vec.specs.Words.{words_of, chunk_owns}
+use Rattle.fixed_vec.specs.contracts.chunk.Chunk as chunk
+use Rattle.fixed_vec.specs.contracts.chunk.Chunk.split.{ended, clauses}
+use Rattle.fixed_vec.specs.contracts.chunk.Chunk.split.Key.{name as #self}
+use Rattle.fixed_vec.proofs.chunk.Chunk.split.Statement.{statement}
+use Rattle.fixed_vec.proofs.chunk.Chunk.split.Code as compiled
 
 pub split_spec : {M : Type 1} → statement M
 split_spec 𝓤 𝓛 𝓜 𝓡 wired =

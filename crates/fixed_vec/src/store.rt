@@ -1,10 +1,11 @@
 //! Where new vectors go.
 
-ghost use Rattle.std.specs.Prelude.{◌≡◌, ℕ, ◌-◌, ◌^◌, ◌<◌, ◌≤◌, None, Some, IsOk, IfOk, [], replicate, vec_capacity};
-ghost use Rattle.plan_memory.specs.Words.{FitsWords};
+ghost use Rattle.std.specs.Prelude.{◌≡◌, ◌^◌, ◌<◌, ◌≤◌, None, Some, IsOk, IfOk, [], replicate, vec_capacity};
+ghost use Rattle.fixed_vec.specs.Spending.{HasWords, Spends};
+ghost use Rattle.fixed_vec.specs.Words.{FitsWords};
 
 use crate::chunk::Chunk;
-use crate::fixed_vec::FixedVec;
+use crate::fixed::FixedVec;
 use std::alloc::{AllocError, Allocator, Global};
 use std::marker::Model;
 use std::mem::replace;
@@ -19,7 +20,7 @@ pub struct Store {
 impl Model for Store {
     ghost use Rattle.std.specs.Prelude.{ℕ, Option};
     ghost use Rattle.std.specs.Coded.{coded_option, coded_ℕ};
-    ghost use Rattle.plan_memory.specs.Inner.Left.{words_left};
+    ghost use Rattle.fixed_vec.specs.Inner.Left.{words_left};
 
     ghost Value = { Option ℕ };
 
@@ -55,9 +56,8 @@ impl Store {
         requires some { (0 < count) × (count < 2 ^ 63) × (0 < words) }
         requires fits { FitsWords T.row count words }
         ensures items { IfOk result (λ v. v.items ≡ replicate count value) }
-        ensures heap { self.old ≡ None → self.new ≡ None }
-        ensures left { (n : ℕ) → self.old ≡ Some n → words ≤ n → self.new ≡ Some (n - words) }
-        ensures enough { (n : ℕ) → self.old ≡ Some n → words ≤ n → IsOk result }
+        ensures spends { Spends words self.old self.new }
+        ensures enough { HasWords words self.old → IsOk result }
     {
         let Some(chunk) = replace(&mut self.lent, None) else {
             let values = Vec::with_capacity(self.alloc, count)?;

@@ -2,10 +2,10 @@
 #![tactic(auto)]
 
 mod chunk;
-mod fixed_vec;
+mod fixed;
 mod home;
 mod store;
 
 pub use chunk::Chunk;
-pub use fixed_vec::FixedVec;
+pub use fixed::FixedVec;
 pub use store::Store;

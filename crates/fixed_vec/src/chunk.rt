@@ -1,7 +1,7 @@
 //! Words of memory that a caller lends.
 
 ghost use Rattle.std.specs.Prelude.{◌≡◌, ◌+◌, ◌^◌, ◌<◌, ◌≤◌, [], vec_capacity};
-ghost use Rattle.plan_memory.specs.Words.{FitsWords, chunk_owns};
+ghost use Rattle.fixed_vec.specs.Words.{FitsWords, chunk_owns};
 
 use std::marker::Model;
 use std_alloc::vec::{Lodged, lodge};

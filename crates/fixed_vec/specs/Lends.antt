@@ -1,8 +1,8 @@
 -- What a vector ends as once its values are lent.
 use Rattle.std.specs.Prelude.{List}
 use Rattle.std.specs.Borrow.{Lends, Fml, RattleType, MutBor, Array}
-use Rattle.plan_memory.specs.Fixed.{Fixed, with_items}
-use Rattle.plan_memory.specs.contracts.fixed_vec.FixedVec.{the_row}
+use Rattle.fixed_vec.specs.Fixed.{Fixed, with_items}
+use Rattle.fixed_vec.specs.contracts.fixed.FixedVec.{the_row}
 
 module _ (T : RattleType) (v : MutBor (Fixed T.Denot)) where
   -- The values are the last ones behind the reference.
