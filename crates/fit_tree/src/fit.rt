@@ -60,7 +60,7 @@ impl FitTree {
         requires { n ≤ MAX_BITMAP_DIM }
         ensures dim { IfOk result (λ made. made.dim ≡ n) }
         ensures free { IfOk result (λ made. (s : ℕ) → held_in made s ≡ None) }
-        ensures spends { Spends (fit_words n) store.old store.new }
+        ensures spends { OnOk result (Spends (fit_words n) store.old store.new) }
         ensures enough { HasWords (fit_words n) store.old → IsOk result }
     {
         let mut rooms = store.filled(0u8, 2 << n, (1 << n) / 4 + 1)?;

@@ -1,6 +1,6 @@
 //! Where new vectors go.
 
-ghost use Rattle.std.specs.Prelude.{◌≡◌, ◌^◌, ◌<◌, ◌≤◌, None, Some, IsOk, IfOk, [], replicate, vec_capacity};
+ghost use Rattle.std.specs.Prelude.{◌≡◌, ◌^◌, ◌<◌, ◌≤◌, None, Some, IsOk, IfOk, OnOk, [], replicate, vec_capacity};
 ghost use Rattle.fixed_vec.specs.Spending.{HasWords, Spends};
 ghost use Rattle.fixed_vec.specs.Words.{FitsWords};
 
@@ -53,12 +53,17 @@ impl Store {
         count: usize,
         words: usize,
     ) -> Result<FixedVec<T>, AllocError>
-        requires some { (0 < count) × (count < 2 ^ 63) × (0 < words) }
+        requires some { 0 < count → 0 < words }
+        requires none { count ≡ 0 → words ≡ 0 }
+        requires small { count < 2 ^ 63 }
         requires fits { FitsWords T.row count words }
         ensures items { IfOk result (λ v. v.items ≡ replicate count value) }
-        ensures spends { Spends words self.old self.new }
+        ensures spends { OnOk result (Spends words self.old self.new) }
         ensures enough { HasWords words self.old → IsOk result }
     {
+        if count == 0 {
+            return Ok(FixedVec::on_heap(Vec::new(self.alloc)));
+        }
         let Some(chunk) = replace(&mut self.lent, None) else {
             let values = Vec::with_capacity(self.alloc, count)?;
             return Ok(FixedVec::on_heap(repeated(values, value, count)?));
