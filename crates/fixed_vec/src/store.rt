@@ -1,6 +1,6 @@
 //! Where new vectors go.
 
-ghost use Rattle.std.specs.Prelude.{◌≡◌, ◌^◌, ◌<◌, ◌≤◌, None, Some, IsOk, IfOk, OnOk, [], replicate, vec_capacity};
+ghost use Rattle.std.specs.Prelude.{◌≡◌, ◌^◌, ◌<◌, ◌≤◌, None, Some, IsOk, IfOk, OnOk, [], length, replicate, vec_capacity};
 ghost use Rattle.fixed_vec.specs.Spending.{HasWords, Spends};
 ghost use Rattle.fixed_vec.specs.Words.{FitsWords};
 
@@ -58,6 +58,7 @@ impl Store {
         requires small { count < 2 ^ 63 }
         requires fits { FitsWords T.row count words }
         ensures items { IfOk result (λ v. v.items ≡ replicate count value) }
+        ensures count { IfOk result (λ v. length v.items ≡ count) }
         ensures spends { OnOk result (Spends words self.old self.new) }
         ensures enough { HasWords words self.old → IsOk result }
     {
