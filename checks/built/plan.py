@@ -1,6 +1,7 @@
 """Plays random events on the scheduler in its source form and on a plain model of it, and compares all answers.
 
-`checks/run plan [--long]` erases `sched_core` and the crates below it to Rust, and builds them with plan.rs. It plays
+`checks/run plan [--long]` erases `sched_core` and the crates below it to Rust, and builds them with plan.rs. plan_store.rs
+stands for `fixed_vec`. It plays
 60,000 events, and with `--long` 1,000,000: machines of up to 256 processors, jobs of all classes, blocks that go out of
 service and return, jobs that end late, full tables. plan_model.py is the model.
 
@@ -19,7 +20,7 @@ from checks.lib.repository import read, write
 from checks.lib.rows import Row, Skipped, Wrong, answer, must, run_rows
 
 EVENTS, MANY, AT_ONCE, SECONDS = 60_000, 1_000_000, 4000, 1800
-PROGRAM, SHIM = "checks/built/plan.rs", "rust/src/source/kit"
+PROGRAM, STORE, SHIM = "checks/built/plan.rs", "checks/built/plan_store.rs", "rust/src/source/kit"
 CRATES = ("cube_shape", "fit_tree", "sched_law", "block_trees", "wait_queue", "sched_blocks", "sched_jobs", "sched_core")
 # The modules of the shim that these crates use, and a text of it that gets a `derive`.
 PARTS, PRELUDE, LIST = ("alloc", "collections", "heap"), r"/// The names that are known everywhere.*", "        pub struct $list<T>($inner);"
@@ -124,9 +125,11 @@ def built(folder, slip=None):
     must(texts["kit/collections.rs"].count(LIST) == 1, f"{SHIM}/collections.rs has not the text {LIST}")
     texts["kit/collections.rs"] = texts["kit/collections.rs"].replace(LIST, f"        #[derive(Debug)]\n{LIST}")
     texts["kit/mod.rs"] = "".join(f"pub mod {it};\n" for it in PARTS) + re.search(PRELUDE, read(f"{SHIM}/mod.rs"), re.S)[0]
-    texts["mod.rs"] = "".join(f"pub mod {it};\n" for it in ("kit", *CRATES))
+    texts["mod.rs"] = "".join(f"pub mod {it};\n" for it in ("kit", "fixed_vec", *CRATES))
+    texts["fixed_vec.rs"] = read(STORE)
     for crate in CRATES:
-        texts.update({f"{crate}/{name}.rs": text for name, text in erase.erased_apart(crate, CRATES).items()})
+        known = erase.erased_apart(crate, ("fixed_vec", *CRATES))
+        texts.update({f"{crate}/{name}.rs": text for name, text in known.items()})
     if slip:
         must(texts[slip.file].count(slip.old) == 1, f"the text {slip.old!r} is not there once")
         texts[slip.file] = texts[slip.file].replace(slip.old, slip.new)
