@@ -1,5 +1,5 @@
 -- Words of memory, and which values fit them.
-use Rattle.std.specs.Prelude.{◌≡◌, ℕ, ◌*◌, ◌≤◌}
+use Rattle.std.specs.Prelude.{ℕ, ◌*◌, ◌≤◌}
 use mir.Syntax.{Ty, w64, ty_int, ty_array}
 use base.Fml.{Fml}
 use prog.Memory.{align}
