@@ -11,6 +11,7 @@ extern crate alloc;
 #[rustfmt::skip]
 mod source;
 
+use source::kit::fixed_vec::Store;
 use source::kit::alloc::Global;
 use source::sched_core::{Forecast, Place, Region, SchedJob, Scheduler, NEVER};
 use std::collections::HashMap;
@@ -41,7 +42,8 @@ fn shown(scheduler: &Scheduler, slot: u32) -> String {
 
 impl Played {
     fn opened(numbers: &[u64]) -> Played {
-        let Ok(scheduler) = Scheduler::new(Global, numbers[0] as u32, numbers[1] as usize, numbers[2] as u32) else {
+        let mut store = Store::heap(Global);
+        let Ok(scheduler) = Scheduler::new(&mut store, numbers[0] as u32, numbers[1] as usize, numbers[2] as u32) else {
             panic!("no memory")
         };
         Played { scheduler, tickets: HashMap::new() }

@@ -1,6 +1,6 @@
 //! The scheduler for callers that keep it.
 
-ghost use Rattle.std.specs.Prelude.{◌≡◌, ◌≢◌, ℕ, ◌+◌, ◌^◌, ◌<◌, ◌≤◌, ◌⊎◌, ◌↔◌, Some, IsTrue, IsFalse, IfOk, IfSome, IfNone};
+ghost use Rattle.std.specs.Prelude.{◌≡◌, ◌≢◌, ℕ, ◌+◌, ◌^◌, ◌<◌, ◌≤◌, ◌⊎◌, ◌↔◌, Some, IsOk, IsTrue, IsFalse, IfOk, OnOk, IfSome, IfNone};
 ghost use Rattle.cube_shape.specs.Region.{IsAligned};
 ghost use Rattle.cube_shape.specs.Falling.{IsHeld};
 ghost use Rattle.region_bits.specs.Count.{IsCount};
@@ -13,15 +13,17 @@ ghost use Rattle.sched_law.specs.Policy.{Decides, HasNone};
 ghost use Rattle.sched_law.specs.Law.{IsSound};
 ghost use Rattle.sched_jobs.specs.Counts.{DoesRun, DoesWait, WaitsBefore};
 ghost use Rattle.sched_jobs.specs.Sums.{asked};
-ghost use Rattle.sched_core.specs.Shows.{HasNoneTaken, HasSameJobs, IsNextTaken, IsSpent, IsTaken, KeepsGenerations, KeepsOthers, KeepsSlots, ShowsCore, dim_of, job_arrival, job_generation, job_place, job_ticket, slots_of, submitted_of, time_of};
+ghost use Rattle.fixed_vec.specs.Spending.{HasWords, Spends};
+ghost use Rattle.sched_core.specs.Shows.{HasNoneTaken, HasSameJobs, IsNextTaken, IsSpent, IsTaken, KeepsGenerations, KeepsOthers, KeepsSlots, ShowsCore, core_words, dim_of, job_arrival, job_generation, job_place, job_ticket, slots_of, submitted_of, time_of};
 ghost use Rattle.sched_core.specs.Answers.{ComesBefore, IsAnnounced, IsForecast, answer_of};
 
 use crate::assigned::{Assigned, Forecast};
 use crate::scheduler::Core;
 use cube_shape::{MAX_BITMAP_DIM, Region};
+use fixed_vec::Store;
 use sched_jobs::{CLASSES, MAX_GENERATION, MAX_SLOTS};
 use sched_law::{Place, SchedJob};
-use std::alloc::{AllocError, Global};
+use std::alloc::AllocError;
 use std::marker::Model;
 
 /// A scheduler that shows a state of `sched_law` at each call. So no call requires that.
@@ -47,15 +49,23 @@ impl Model for Scheduler {
 }
 
 impl Scheduler {
-    /// Creates a scheduler of a machine of dimension `dim`, for this many jobs, without a job. If
-    /// `patience` times the machine has passed the head, a block is reserved for it in any case.
-    pub fn new(alloc: Global, dim: u32, capacity: usize, patience: u32) -> Result<Self, AllocError>
+    /// Creates a scheduler of a machine of dimension `dim`, for this many jobs, without a job, in
+    /// memory of a store. If `patience` times the machine has passed the head, a block is reserved
+    /// for it in any case.
+    pub fn new(
+        store: &mut Store,
+        dim: u32,
+        capacity: usize,
+        patience: u32,
+    ) -> Result<Self, AllocError>
         requires dim { dim ≤ MAX_BITMAP_DIM }
         requires capacity { capacity ≤ MAX_SLOTS }
         ensures slots { IfOk result (λ made. slots_of made ≡ capacity) }
         ensures shows { IfOk result (ShowsCore (initial dim patience)) }
+        ensures spends { OnOk result (Spends (core_words dim capacity) store.old store.new) }
+        ensures enough { HasWords (core_words dim capacity) store.old → IsOk result }
     {
-        let core = Core::new(alloc, dim, capacity, patience)?;
+        let core = Core::new(store, dim, capacity, patience)?;
         Ok(Scheduler { core })
     }
 

@@ -58,3 +58,7 @@ rank_in lines u = estimate_of lines.nodes.items u
 -- The number of slots.
 abbrev pub slots_of : LineTable → ℕ
 slots_of lines = length lines.nodes.items
+
+-- How many words of 8 bytes the queues of this many slots take: the nodes, the queues, the flags.
+abbrev pub table_words : ℕ → ℕ
+table_words capacity = 5 * capacity + (CLASSES * (MAX_BITMAP_DIM + 1) + 1)

@@ -14,7 +14,7 @@ use Rattle.sched_jobs.specs.declared.slots.TheConstants.{MAX_GENERATION}
 use Rattle.sched_jobs.specs.declared.slots.Slot.{Slot}
 use Rattle.sched_jobs.specs.declared.line_table.LineTable.{LineTable}
 use Rattle.sched_jobs.specs.declared.jobs.Jobs.{Jobs}
-use Rattle.sched_jobs.specs.Lines.{HasLines, key_in, rank_in, slots_of}
+use Rattle.sched_jobs.specs.Lines.{HasLines, key_in, rank_in, slots_of, table_words}
 use Rattle.sched_jobs.specs.Select.{IsWanted}
 use Rattle.sched_jobs.specs.Sums.{ShowsRunning}
 use Rattle.sched_jobs.specs.Slots.{IsPresent, generation_in, line_of, next_after, place_in, rank_of}
@@ -119,3 +119,7 @@ pub record IsFirstWaiting (any most : Option ℕ) (limit : ℕ) (w : Sched) (job
 abbrev pub HasNoneWaiting : Option ℕ → Option ℕ → ℕ → Sched → Type 0
 HasNoneWaiting any most limit w =
     (i : ℕ) (other : SchedWait) → Waits w i other → IsWanted any most limit other.job → ⊥
+
+-- How many words of 8 bytes a table for this many jobs takes.
+abbrev pub job_words : ℕ → ℕ
+job_words capacity = 7 * capacity + table_words capacity

@@ -1,6 +1,6 @@
 //! The jobs of a scheduler as a value.
 
-ghost use Rattle.std.specs.Prelude.{◌≡◌, ◌≢◌, ℕ, ◌+◌, ◌^◌, ◌<◌, ◌≤◌, ◌⊎◌, Option, min, Some, None, IfOk, IfSome, IfNone, length};
+ghost use Rattle.std.specs.Prelude.{◌≡◌, ◌≢◌, ℕ, ◌+◌, ◌^◌, ◌<◌, ◌≤◌, ◌⊎◌, Option, min, Some, None, IsOk, IfOk, OnOk, IfSome, IfNone, length};
 ghost use Rattle.sched_law.specs.declared.job.TheConstants.{NEVER as LAST};
 ghost use Rattle.sched_law.specs.declared.job.Place.{Place as PlaceData};
 ghost use Rattle.sched_law.specs.declared.job.Place.TheVariants.{Absent, Waiting, Running};
@@ -12,7 +12,8 @@ ghost use Rattle.sched_jobs.specs.Counts.{DoesRun, DoesWait, HasNoneUsed, IsNext
 ghost use Rattle.sched_jobs.specs.Sums.{asked};
 ghost use Rattle.sched_jobs.specs.Lines.{HasLines, rank_in, slots_of};
 ghost use Rattle.sched_jobs.specs.Inner.Put.{HasPut};
-ghost use Rattle.sched_jobs.specs.Shows.{HasGenerations, HasJob, HasNoneWaiting, HasOthers, IsFirstWaiting, IsRetired, ShowsJobs, ShowsSlots, arrival_of, capacity_of, generation_of, place_of, ticket_of};
+ghost use Rattle.fixed_vec.specs.Spending.{HasWords, Spends};
+ghost use Rattle.sched_jobs.specs.Shows.{HasGenerations, HasJob, HasNoneWaiting, HasOthers, IsFirstWaiting, IsRetired, ShowsJobs, ShowsSlots, arrival_of, capacity_of, generation_of, job_words, place_of, ticket_of};
 
 use crate::line_table::LineTable;
 use crate::lines::{CLASSES, DIMS, LINES};
@@ -21,13 +22,14 @@ use crate::slots::{
     MAX_GENERATION, Slot, generation_at, is_present, next_present, place_at, processors_of, put,
 };
 use cube_shape::{MAX_BITMAP_DIM, Region};
+use fixed_vec::{FixedVec, Store};
 use sched_law::{Place, SchedJob, SchedRun, SchedWait};
-use std::alloc::{AllocError, Global};
+use std::alloc::AllocError;
 use wait_queue::MAX_SLOTS;
 
 /// The jobs of a scheduler for one thread.
 ///
-/// Only `new` allocates memory.
+/// Only `new` takes memory.
 #[derive(Drop)]
 pub struct Jobs {
     next: u64,
@@ -36,20 +38,22 @@ pub struct Jobs {
     running: u64,
     /// How many processors the running jobs use.
     asked: u64,
-    slots: Vec<Slot>,
+    slots: FixedVec<Slot>,
     lines: LineTable,
 }
 
 impl Jobs {
-    /// Creates a table for this many jobs, without a job.
-    pub fn new(alloc: Global, capacity: usize) -> Result<Self, AllocError>
+    /// Creates a table for this many jobs, without a job, in memory of a store.
+    pub fn new(store: &mut Store, capacity: usize) -> Result<Self, AllocError>
         requires { capacity ≤ MAX_SLOTS }
         ensures capacity { IfOk result (λ made. capacity_of made ≡ capacity) }
         ensures shows { IfOk result (λ made. (n patience : ℕ)
             → ShowsJobs (initial n patience) made) }
+        ensures spends { OnOk result (Spends (job_words capacity) store.old store.new) }
+        ensures enough { HasWords (job_words capacity) store.old → IsOk result }
     {
-        let slots = vec![in alloc; Slot::UNUSED; capacity]?;
-        let lines = LineTable::new(alloc, capacity)?;
+        let slots = store.filled(Slot::UNUSED, capacity, 7 * capacity)?;
+        let lines = LineTable::new(store, capacity)?;
         Ok(Jobs {
             next: 0,
             free: 0,

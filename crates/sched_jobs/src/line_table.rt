@@ -1,9 +1,10 @@
 //! The queues of the waiting jobs of a table.
 
-ghost use Rattle.std.specs.Prelude.{◌≡◌, ◌≢◌, ℕ, ◌+◌, ◌*◌, ◌^◌, ◌<◌, ◌≤◌, Bool, Option, Some, None, IfOk, length};
+ghost use Rattle.std.specs.Prelude.{◌≡◌, ◌≢◌, ℕ, ◌+◌, ◌*◌, ◌^◌, ◌<◌, ◌≤◌, Bool, Option, Some, None, IsOk, IfOk, OnOk, length};
 ghost use Rattle.sched_law.specs.State.{set};
 ghost use Rattle.sched_jobs.specs.Slots.{line_at, next_after, rank_of};
-ghost use Rattle.sched_jobs.specs.Lines.{HasLines, flag_in, key_in, rank_in, slots_of};
+ghost use Rattle.fixed_vec.specs.Spending.{HasWords, Spends};
+ghost use Rattle.sched_jobs.specs.Lines.{HasLines, flag_in, key_in, rank_in, slots_of, table_words};
 ghost use Rattle.sched_jobs.specs.Inner.Joins.{MayJoin};
 ghost use Rattle.region_bits.specs.Count.{IsCount};
 ghost use Rattle.sched_jobs.specs.Inner.Numbers.{HasKeyFrom, HasNumbers};
@@ -13,17 +14,18 @@ use crate::counts::total;
 use crate::lines::{CLASSES, DIMS, LINES, is_class_empty, join_line, key_at, leave_line, put_key};
 use crate::search::{Wanted, first_of_all};
 use cube_shape::MAX_BITMAP_DIM;
+use fixed_vec::{FixedVec, Store};
 use sched_law::{NEVER, SchedJob};
-use std::alloc::{AllocError, Global};
+use std::alloc::AllocError;
 use wait_queue::{MAX_SLOTS, Queue, QueueNode};
 
 /// A queue for each class and dimension, over one node for each slot.
 #[derive(Drop)]
 pub struct LineTable {
-    pub(crate) nodes: Vec<QueueNode>,
-    pub(crate) queues: Vec<Queue>,
+    pub(crate) nodes: FixedVec<QueueNode>,
+    pub(crate) queues: FixedVec<Queue>,
     /// Whether a class may have waiting jobs.
-    pub(crate) used: Vec<bool>,
+    pub(crate) used: FixedVec<bool>,
 }
 
 // Returns the rank of an estimate: the largest number if it is not known.
@@ -55,16 +57,18 @@ fn set_flag(used: &mut [bool], class: usize, to: bool)
 }
 
 impl LineTable {
-    /// Creates empty queues for this many slots.
-    pub(crate) fn new(alloc: Global, capacity: usize) -> Result<Self, AllocError>
+    /// Creates empty queues for this many slots, in memory of a store.
+    pub(crate) fn new(store: &mut Store, capacity: usize) -> Result<Self, AllocError>
         requires { capacity ≤ MAX_SLOTS }
         ensures slots { IfOk result (λ made. slots_of made ≡ capacity) }
         ensures keys { IfOk result (λ made. (u : ℕ) → key_in made u ≡ 0) }
         ensures lines { IfOk result (λ made. HasLines made (λ u. None)) }
+        ensures spends { OnOk result (Spends (table_words capacity) store.old store.new) }
+        ensures enough { HasWords (table_words capacity) store.old → IsOk result }
     {
-        let nodes = vec![in alloc; QueueNode::UNUSED; capacity]?;
-        let queues = vec![in alloc; Queue::new(); LINES]?;
-        let used = vec![in alloc; false; CLASSES as usize]?;
+        let nodes = store.filled(QueueNode::UNUSED, capacity, 5 * capacity)?;
+        let queues = store.filled(Queue::new(), LINES, LINES)?;
+        let used = store.filled(false, CLASSES as usize, 1)?;
         Ok(LineTable {
             nodes,
             queues,

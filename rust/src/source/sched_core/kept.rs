@@ -4,9 +4,10 @@
 use crate::source::sched_core::assigned::{Assigned, Forecast};
 use crate::source::sched_core::scheduler::Core;
 use crate::source::cube_shape::{MAX_BITMAP_DIM, Region};
+use crate::source::kit::fixed_vec::Store;
 use crate::source::sched_jobs::{CLASSES, MAX_GENERATION, MAX_SLOTS};
 use crate::source::sched_law::{Place, SchedJob};
-use crate::source::kit::alloc::{AllocError, Global};
+use crate::source::kit::alloc::AllocError;
 
 /// A scheduler that shows a state of `sched_law` at each call. So no call requires that.
 pub struct Scheduler {
@@ -14,8 +15,9 @@ pub struct Scheduler {
 }
 
 impl Scheduler {
-    /// Creates a scheduler of a machine of dimension `dim`, for this many jobs, without a job. If
-    /// `patience` times the machine has passed the head, a block is reserved for it in any case.
+    /// Creates a scheduler of a machine of dimension `dim`, for this many jobs, without a job, in
+    /// memory of a store. If `patience` times the machine has passed the head, a block is reserved
+    /// for it in any case.
     ///
     /// # Clauses of the proved source
     ///
@@ -23,8 +25,15 @@ impl Scheduler {
     /// - requires capacity: `capacity ≤ MAX_SLOTS`
     /// - ensures slots: `IfOk result (λ made. slots_of made ≡ capacity)`
     /// - ensures shows: `IfOk result (ShowsCore (initial dim patience))`
-    pub fn new(alloc: Global, dim: u32, capacity: usize, patience: u32) -> Result<Self, AllocError> {
-        let core = Core::new(alloc, dim, capacity, patience)?;
+    /// - ensures spends: `OnOk result (Spends (core_words dim capacity) store.old store.new)`
+    /// - ensures enough: `HasWords (core_words dim capacity) store.old → IsOk result`
+    pub fn new(
+        store: &mut Store,
+        dim: u32,
+        capacity: usize,
+        patience: u32,
+    ) -> Result<Self, AllocError> {
+        let core = Core::new(store, dim, capacity, patience)?;
         Ok(Scheduler { core })
     }
 

@@ -1,8 +1,6 @@
 // Made from crates/sched_jobs/src/jobs.rt by checks/lib/erase.py. Change that file.
 //! The jobs of a scheduler as a value.
 
-use crate::source::kit::prelude::{Vec, vec};
-
 use crate::source::sched_jobs::line_table::LineTable;
 use crate::source::sched_jobs::lines::{CLASSES, DIMS, LINES};
 use crate::source::sched_jobs::search::Wanted;
@@ -10,13 +8,14 @@ use crate::source::sched_jobs::slots::{
     MAX_GENERATION, Slot, generation_at, is_present, next_present, place_at, processors_of, put,
 };
 use crate::source::cube_shape::{MAX_BITMAP_DIM, Region};
+use crate::source::kit::fixed_vec::{FixedVec, Store};
 use crate::source::sched_law::{Place, SchedJob, SchedRun, SchedWait};
-use crate::source::kit::alloc::{AllocError, Global};
+use crate::source::kit::alloc::AllocError;
 use crate::source::wait_queue::MAX_SLOTS;
 
 /// The jobs of a scheduler for one thread.
 ///
-/// Only `new` allocates memory.
+/// Only `new` takes memory.
 pub struct Jobs {
     next: u64,
     free: u32,
@@ -24,21 +23,23 @@ pub struct Jobs {
     running: u64,
     /// How many processors the running jobs use.
     asked: u64,
-    slots: Vec<Slot>,
+    slots: FixedVec<Slot>,
     lines: LineTable,
 }
 
 impl Jobs {
-    /// Creates a table for this many jobs, without a job.
+    /// Creates a table for this many jobs, without a job, in memory of a store.
     ///
     /// # Clauses of the proved source
     ///
     /// - requires: `capacity ≤ MAX_SLOTS`
     /// - ensures capacity: `IfOk result (λ made. capacity_of made ≡ capacity)`
     /// - ensures shows: `IfOk result (λ made. (n patience : ℕ) → ShowsJobs (initial n patience) made)`
-    pub fn new(alloc: Global, capacity: usize) -> Result<Self, AllocError> {
-        let slots = vec![in alloc; Slot::UNUSED; capacity]?;
-        let lines = LineTable::new(alloc, capacity)?;
+    /// - ensures spends: `OnOk result (Spends (job_words capacity) store.old store.new)`
+    /// - ensures enough: `HasWords (job_words capacity) store.old → IsOk result`
+    pub fn new(store: &mut Store, capacity: usize) -> Result<Self, AllocError> {
+        let slots = store.filled(Slot::UNUSED, capacity, 7 * capacity)?;
+        let lines = LineTable::new(store, capacity)?;
         Ok(Jobs {
             next: 0,
             free: 0,

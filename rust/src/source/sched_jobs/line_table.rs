@@ -1,22 +1,21 @@
 // Made from crates/sched_jobs/src/line_table.rt by checks/lib/erase.py. Change that file.
 //! The queues of the waiting jobs of a table.
 
-use crate::source::kit::prelude::{Vec, vec};
-
 use crate::source::sched_jobs::counts::total;
 use crate::source::sched_jobs::lines::{CLASSES, DIMS, LINES, is_class_empty, join_line, key_at, leave_line, put_key};
 use crate::source::sched_jobs::search::{Wanted, first_of_all};
 use crate::source::cube_shape::MAX_BITMAP_DIM;
+use crate::source::kit::fixed_vec::{FixedVec, Store};
 use crate::source::sched_law::{NEVER, SchedJob};
-use crate::source::kit::alloc::{AllocError, Global};
+use crate::source::kit::alloc::AllocError;
 use crate::source::wait_queue::{MAX_SLOTS, Queue, QueueNode};
 
 /// A queue for each class and dimension, over one node for each slot.
 pub struct LineTable {
-    pub(crate) nodes: Vec<QueueNode>,
-    pub(crate) queues: Vec<Queue>,
+    pub(crate) nodes: FixedVec<QueueNode>,
+    pub(crate) queues: FixedVec<Queue>,
     /// Whether a class may have waiting jobs.
-    pub(crate) used: Vec<bool>,
+    pub(crate) used: FixedVec<bool>,
 }
 
 // Returns the rank of an estimate: the largest number if it is not known.
@@ -38,11 +37,11 @@ fn set_flag(used: &mut [bool], class: usize, to: bool) {
 }
 
 impl LineTable {
-    /// Creates empty queues for this many slots.
-    pub(crate) fn new(alloc: Global, capacity: usize) -> Result<Self, AllocError> {
-        let nodes = vec![in alloc; QueueNode::UNUSED; capacity]?;
-        let queues = vec![in alloc; Queue::new(); LINES]?;
-        let used = vec![in alloc; false; CLASSES as usize]?;
+    /// Creates empty queues for this many slots, in memory of a store.
+    pub(crate) fn new(store: &mut Store, capacity: usize) -> Result<Self, AllocError> {
+        let nodes = store.filled(QueueNode::UNUSED, capacity, 5 * capacity)?;
+        let queues = store.filled(Queue::new(), LINES, LINES)?;
+        let used = store.filled(false, CLASSES as usize, 1)?;
         Ok(LineTable {
             nodes,
             queues,

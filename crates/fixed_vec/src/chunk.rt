@@ -1,0 +1,58 @@
+//! Words of memory that a caller lends.
+
+ghost use Rattle.std.specs.Prelude.{◌≡◌, ◌+◌, ◌^◌, ◌<◌, ◌≤◌, [], vec_capacity};
+ghost use Rattle.fixed_vec.specs.Words.{FitsWords, chunk_owns};
+
+use std::marker::Model;
+use std_alloc::vec::{Lodged, lodge};
+
+/// Words of 8 bytes that a caller lends for good. No value lies in them.
+#[repr(C)]
+#[derive(Drop)]
+pub struct Chunk {
+    /// The first word. It is anything if there are none.
+    pub at: *mut u8,
+    /// How many words there are.
+    pub words: usize,
+    ghost small: { words < 2 ^ 60 },
+}
+
+impl Model for Chunk {
+    ghost also_owns = { λ c. chunk_owns c.at c.words };
+}
+
+impl Chunk {
+    /// Returns how many words there are, and the chunk again.
+    pub fn measured(self) -> (usize, Chunk)
+        ensures { (result.0 ≡ self.words) × (result.1 ≡ self) }
+    {
+        let Chunk { at, words } = self;
+        (words, Chunk { at, words })
+    }
+
+    /// Cuts the first words off. Returns them, and the words after them.
+    pub fn split(self, words: usize) -> (Chunk, Chunk)
+        requires { (0 < words) × (words ≤ self.words) }
+        ensures { (result.0.words ≡ words) × (words + result.1.words ≡ self.words) }
+    {
+        let Chunk { at, words: all } = self;
+        let rest = unsafe { at.add(8 * words) };
+        (
+            Chunk { at, words },
+            Chunk {
+                at: rest,
+                words: all - words,
+            },
+        )
+    }
+
+    /// Makes an empty vector with room for this many values of the words.
+    pub fn lodge<T>(self, count: usize) -> Vec<T, Lodged>
+        requires { (0 < count) × (count < 2 ^ 63) × (0 < self.words)
+            × FitsWords T.row count self.words }
+        ensures { (result.items ≡ []) × (vec_capacity result ≡ count) }
+    {
+        let Chunk { at, words: _ } = self;
+        unsafe { lodge(at as *mut T, 0, count) }
+    }
+}
