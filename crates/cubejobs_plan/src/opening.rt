@@ -77,12 +77,7 @@ fn planner_in(store: &mut Store, options: Options) -> Option<Planner>
     ensures made { IfSome result (λ made. IsNew options made.scheduler) }
     ensures enough { HasWords (core_words options.dim options.jobs) store.old → IsSome result }
 {
-    let made = Scheduler::new(
-        store,
-        options.dim,
-        options.jobs as usize,
-        options.patience,
-    );
+    let made = Scheduler::new(store, options.dim, options.jobs as usize, options.patience);
     match made {
         Ok(scheduler) => Some(Planner { scheduler }),
         Err(_) => None,

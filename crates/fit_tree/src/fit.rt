@@ -22,8 +22,8 @@ use std::marker::Model;
 
 /// A machine for one thread: which aligned blocks are held.
 ///
-/// Only `new` and `new_in` take memory, `2^(n + 1)` bytes. Each other call takes at most about `2 * n`
-/// steps.
+/// Only `new` and `new_in` take memory, `2^(n + 1)` bytes. Each other call takes at most about
+/// `2 * n` steps.
 #[derive(Debug, Drop)]
 pub struct FitTree {
     dim: u32,

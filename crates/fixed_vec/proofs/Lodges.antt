@@ -1,8 +1,7 @@
 -- The call of `lodge` for an empty vector, at any element type. Assumes `Logic`.
-use Rattle.std.proofs.Common.{◌≡◌, ℕ, zero, ◌+◌, ◌-◌, ◌*◌, ◌^◌, ◌<◌, ◌≤◌, List, [], ◌∷◌, length, refl, arith, Vec}
+use Rattle.std.proofs.Common.{◌≡◌, ℕ, ◌+◌, ◌-◌, ◌*◌, ◌^◌, ◌<◌, ◌≤◌, List, [], ◌∷◌, length, refl, arith, Vec}
 use seplogic.Ra.Ura.{Ura}
 use mir.Syntax.{w64, ty_array}
-use mir.Raw.{raw as bare}
 use mir.Val.{Val, vint, vptr}
 use base.Fraction.{full_share}
 use base.Logic.{SProp, ent, ex, guard, sep, emp, id⊢}
@@ -21,7 +20,6 @@ use denote.RawPtr.{block_ptr}
 use denote.Steps.{nothing, heard}
 use denote.Triple.Spec.{triple_of}
 use denote.Triple.Statement.{Contract}
-use Rattle.std_alloc.specs.Vec.Ownership.{lodged}
 use Rattle.std_alloc.specs.declared.vec.lodged.Lodged.{Lodged}
 use Rattle.std_alloc.specs.contracts.vec.lodge as LG
 use Rattle.std_alloc.proofs.OfLodged.{lodging}

@@ -1,5 +1,5 @@
 -- Words that are spent one after another.
-use Rattle.std.proofs.Common.{◌≡◌, sym, subst, ℕ, ◌+◌, ◌-◌, ◌≤◌, Option, Some, refl, ap, ◌∙◌, arith}
+use Rattle.std.proofs.Common.{◌≡◌, sym, subst, ℕ, ◌+◌, ◌-◌, Option, Some, ap, ◌∙◌, arith}
 use Rattle.fixed_vec.specs.Spending.{HasWords, Spends}
 
 -- the first words are there

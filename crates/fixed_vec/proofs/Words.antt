@@ -1,5 +1,5 @@
 -- Words of memory are cut in two, and are room for values that they hold. Assumes `Logic`.
-use Rattle.std.proofs.Common.{◌≡◌, ℕ, zero, suc, ◌+◌, ◌-◌, ◌*◌, ◌%◌, ◌<◌, ◌≤◌, max, Bool, true, false, List, [], ◌∷◌, refl, sym, ap, subst, ◌∙◌, arith}
+use Rattle.std.proofs.Common.{◌≡◌, ℕ, zero, suc, ◌+◌, ◌-◌, ◌*◌, ◌%◌, ◌≤◌, max, Bool, true, false, [], ◌∷◌, refl, sym, ap, subst, ◌∙◌, arith}
 use seplogic.Ra.Ura.{Ura}
 use mir.Syntax.{Ty, Tys, w8, w64, tnil, tcons, ty_int, ty_array, ty_struct}
 use native.Mathlib.Nat.{mod_self, sub-zero}
@@ -8,7 +8,7 @@ use prog.Memory.{size, align, pad, up, end_of}
 use prog.Model.{rooms_at}
 use prog.Align.{Dv, dv→, dv_zero, dv_one, dv_mul, align_pos}
 use types.Logic.{Logic, sem}
-use types.Kit.{‵, raw, ◌⊛◌, ◌$◌, ◌∵◌, !, qed, by, use1, split, rewrite, keep, done}
+use types.Kit.{raw, ◌⊛◌, ◌$◌, ◌∵◌, !, qed, use1, split, rewrite, keep, done}
 use denote.RawPtr.{block_ptr, room_for}
 use denote.RawPtr.Room.{room_cut, past}
 use Rattle.std_alloc.specs.Vec.Ownership.{has_block, owns_if}

@@ -1,5 +1,5 @@
 -- Words of memory, and which values fit them.
-use Rattle.std.specs.Prelude.{◌≡◌, ℕ, ◌*◌, ◌≤◌}
+use Rattle.std.specs.Prelude.{ℕ, ◌*◌, ◌≤◌}
 use mir.Syntax.{Ty, w64, ty_int, ty_array}
 use base.Fml.{Fml}
 use prog.Memory.{align}
@@ -18,7 +18,7 @@ words_of n = ty_array (ty_int w64) n
 abbrev pub chunk_owns : Ptr → ℕ → Fml
 chunk_owns p n = owns_if (has_block n) (room_for (words_of n) p)
 
--- So many values take at most these words, and are aligned as words are.
+-- This many values take at most these words, and are aligned as words are.
 pub record FitsWords (R : RattleType) (count words : ℕ) : Type 0 where
   pub size : count * type_size R ≤ words * 8
   pub aligned : Dv (align (lone R.mir)) 8

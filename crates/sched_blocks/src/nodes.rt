@@ -51,7 +51,13 @@ pub(crate) fn upper(n: u32, region: Region) -> Region
 }
 
 /// Notes in both trees that a block is in use until an end.
-pub(crate) fn note_use(ends: &mut FixedVec<u64>, busy: &mut FixedVec<u32>, n: u32, region: Region, end: u64)
+pub(crate) fn note_use(
+    ends: &mut FixedVec<u64>,
+    busy: &mut FixedVec<u32>,
+    n: u32,
+    region: Region,
+    end: u64,
+)
     requires machine { n ≤ MAX_BITMAP_DIM }
     requires ends { length ends.old.items ≡ 2 ^ (n + 1) }
     requires busy { length busy.old.items ≡ 2 ^ (n + 1) }

@@ -96,6 +96,6 @@ pub record ShowsCore (w : Sched) (core : Core) : Type 0 where
   pub patience : w.patience ≡ core.patience
   pub kept : ShowsKept w.reserved core.jobs core.reserved
 
--- How many words of 8 bytes a scheduler takes, of a machine of this dimension and for so many jobs.
+-- How many words of 8 bytes a scheduler takes: of a machine of this dimension, for this many jobs.
 abbrev pub core_words : ℕ → ℕ → ℕ
 core_words dim capacity = block_words dim + job_words capacity

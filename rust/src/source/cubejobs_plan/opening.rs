@@ -59,12 +59,7 @@ pub(crate) fn opened_in(alloc: Global, options: Options, words: Chunk) -> Option
 
 // Makes a planner in memory of a store. Returns `None` if that ran out.
 fn planner_in(store: &mut Store, options: Options) -> Option<Planner> {
-    let made = Scheduler::new(
-        store,
-        options.dim,
-        options.jobs as usize,
-        options.patience,
-    );
+    let made = Scheduler::new(store, options.dim, options.jobs as usize, options.patience);
     match made {
         Ok(scheduler) => Some(Planner { scheduler }),
         Err(_) => None,

@@ -10,8 +10,8 @@ use crate::source::kit::alloc::{AllocError, Global};
 
 /// A machine for one thread: which aligned blocks are held.
 ///
-/// Only `new` and `new_in` take memory, `2^(n + 1)` bytes. Each other call takes at most about `2 * n`
-/// steps.
+/// Only `new` and `new_in` take memory, `2^(n + 1)` bytes. Each other call takes at most about
+/// `2 * n` steps.
 #[derive(Debug)]
 pub struct FitTree {
     dim: u32,

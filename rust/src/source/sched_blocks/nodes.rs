@@ -27,7 +27,13 @@ pub(crate) fn upper(n: u32, region: Region) -> Region {
 }
 
 /// Notes in both trees that a block is in use until an end.
-pub(crate) fn note_use(ends: &mut FixedVec<u64>, busy: &mut FixedVec<u32>, n: u32, region: Region, end: u64) {
+pub(crate) fn note_use(
+    ends: &mut FixedVec<u64>,
+    busy: &mut FixedVec<u32>,
+    n: u32,
+    region: Region,
+    end: u64,
+) {
     let node = node_of(n, region);
     set_end(ends, n, region.dim, node, end);
     add_busy(busy, n, region.dim, node);

@@ -1,5 +1,5 @@
 -- An open handle of a planner on the heap has one there.
-use Rattle.std.proofs.Common.{◌≡◌, ap}
+use Rattle.std.proofs.Common.{ap}
 use Rattle.cubejobs_plan.specs.CoreIn.{is_open_tag}
 use Rattle.cubejobs_plan.proofs.PlaceLemmas.{placed}
 use Rattle.cubejobs_plan.proofs.handle.Handle.free.Goals as goal

@@ -1,7 +1,7 @@
 -- `in_words` writes the content where the words are, as a box that needs no right to be freed.
-use Rattle.std.proofs.Common.{◌≡◌, ◌*◌, ◌<◌, ◌≤◌, Bool, true, List, [], ◌∷◌, ◌++◌, refl, sym, ap, ◌∙◌, arith, Some}
+use Rattle.std.proofs.Common.{◌≡◌, ◌*◌, ◌<◌, ◌≤◌, Bool, true, List, [], ◌∷◌, ◌++◌, refl, ap, ◌∙◌, arith, Some}
 use mir.Syntax.{Fn}
-use mir.Val.{Val, vptr}
+use mir.Val.{Val}
 use base.Fraction.{full_share}
 use base.Logic.{SProp, emp, id⊢, never}
 use base.Fml.{froom}
@@ -26,7 +26,7 @@ use Rattle.std.proofs.raw_atomic.Walks.{proved_at, leaves}
 use Rattle.std_alloc.specs.Vec.Ownership.{owns_if}
 use Rattle.std_alloc.proofs.VecSteps.Opens.{is_live}
 use Rattle.std_alloc.proofs.VecSteps.Shapes.{after}
-use Rattle.std_alloc.proofs.BoxSteps.Form.{Bx, D, B, R, τ, word, box_typed}
+use Rattle.std_alloc.proofs.BoxSteps.Form.{Bx, D, R, τ, word, box_typed}
 use Rattle.std_alloc.proofs.BoxSteps.Steps.{el_in, el_tells, box_in}
 use Rattle.fixed_vec.specs.Words.{FitsWords, words_of}
 use Rattle.fixed_vec.proofs.Values.{slot_at, sized_val, sized_told}

@@ -1,8 +1,8 @@
 -- `lodge` hands the words to std's `lodge`, as room for the values. Assumes `Logic`.
-use Rattle.std.proofs.Common.{◌≡◌, ◌+◌, ◌*◌, ◌^◌, ◌<◌, ◌≤◌, Bool, List, [], ◌∷◌, ◌++◌, refl, sym, ap, subst, ◌∙◌, arith, w64, Vec}
-use mir.Syntax.{Ty, Fn, Body, ty_array, seq, assign, place, rv_opd, copy, return}
+use Rattle.std.proofs.Common.{◌≡◌, ◌*◌, ◌^◌, ◌<◌, ◌≤◌, Bool, List, [], ◌∷◌, ◌++◌, refl, sym, ap, subst, ◌∙◌, arith, w64, Vec}
+use mir.Syntax.{Ty, Fn, ty_array}
 use mir.MapTy.{inst_fn}
-use mir.Val.{Val, vint, vptr, has_ty, WT}
+use mir.Val.{Val, vint, has_ty, WT}
 use base.Logic.{SProp, emp, id⊢, never}
 use base.Fml.{ftrue, flft}
 use lib.Dec.{T}
@@ -14,7 +14,7 @@ use types.Kit.{‵, raw, ◌⊛◌, some, later, given, prop, at_ret, ◌$◌, �
 use types.Part.{whole, sub}
 use types.Run.{stop, fld, lit, of_opd, no_more, and_then, first, blocks, exec, returns, enter}
 use types.ByLocal.{alloc_all, pass_all, free_all, look_at, get, get_in, sets, lands_last, env}
-use denote.RattleType.{RattleType, owns}
+use denote.RattleType.{owns}
 use denote.RawPtr.{Ptr, block_ptr, room_for, in_a_block}
 use denote.Signature.{types_at}
 use denote.Steps.{nothing, heard, only}
@@ -23,10 +23,10 @@ use denote.Triple.Walked.{Stays, stay_dropped, walk_of, Goes-dropped}
 use Rattle.core.proofs.alloc.Calls.{Goes-blank}
 use Rattle.core.proofs.alloc.Shapes.{after}
 use Rattle.core.proofs.atomic.Steps.{fm}
-use Rattle.std_alloc.specs.Vec.Ownership.{owns_if, has_block}
+use Rattle.std_alloc.specs.Vec.Ownership.{owns_if}
 use Rattle.std_alloc.specs.declared.vec.lodged.Lodged.{Lodged}
 use Rattle.std_alloc.proofs.OfLodged.{lodging}
-use Rattle.std_alloc.proofs.VecSteps.El.{El, elτ, el_x, R, Vr, sz, args₁, vec_val, vec_ty, vec_typed}
+use Rattle.std_alloc.proofs.VecSteps.El.{El, elτ, el_x, R, Vr, sz, args₁, vec_ty, vec_typed}
 use Rattle.std_alloc.proofs.VecSteps.Opens.{is_live, vec_had, vec_made}
 use Rattle.std_alloc.proofs.vec.lodge.Met as callee
 use Rattle.std.proofs.raw_atomic.Walks.{proved_at, leaves}

@@ -1,5 +1,5 @@
 -- `split` moves a pointer up, and cuts what the chunk owns. Assumes `Logic`.
-use Rattle.std.proofs.Common.{◌≡◌, ◌+◌, ◌-◌, ◌*◌, ◌^◌, ◌<◌, ◌≤◌, Bool, List, [], ◌∷◌, ◌++◌, refl, sym, ap, ◌∙◌, arith, lit<, w64}
+use Rattle.std.proofs.Common.{◌≡◌, ◌+◌, ◌-◌, ◌*◌, ◌^◌, ◌<◌, ◌≤◌, Bool, List, [], ◌∷◌, ◌++◌, refl, ap, ◌∙◌, arith, w64}
 use mir.Syntax.{Fn}
 use mir.Val.{Val, vint, vptr}
 use base.Logic.{SProp, emp, id⊢, never}
@@ -19,7 +19,7 @@ use denote.Triple.Entry.{alive}
 use denote.Triple.Walked.{Stays, stay_dropped, walk_of, Goes-dropped}
 use Rattle.core.proofs.alloc.Calls.{Goes-blank}
 use Rattle.core.proofs.alloc.Shapes.{after}
-use Rattle.std_alloc.specs.Vec.Ownership.{owns_if, has_block}
+use Rattle.std_alloc.specs.Vec.Ownership.{owns_if}
 use Rattle.std_alloc.proofs.Pairs.{pair_of, pair_val}
 use Rattle.std_alloc.proofs.VecSteps.Opens.{is_live}
 use Rattle.std.proofs.raw_atomic.Walks.{proved_at, leaves}

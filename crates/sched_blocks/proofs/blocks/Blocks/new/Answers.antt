@@ -1,4 +1,4 @@
-use Rattle.std.proofs.Common.{◌≡◌, ℕ, ◌+◌, ◌<◌, ◌*◌, ◌%◌, ◌^◌, ap, length, false, sym, subst, ◌∙◌, refl, arith}
+use Rattle.std.proofs.Common.{◌≡◌, ℕ, ◌+◌, ◌<◌, ◌*◌, ◌%◌, ◌^◌, ap, length, false, ◌∙◌, refl, arith}
 use Rattle.std.proofs.lemmas.Nat.{one_shl, shl_whole}
 use Rattle.fixed_vec.proofs.Spending.{first, others, both, as_words, with_words}
 use Rattle.fit_tree.specs.Fit.{fit_words}

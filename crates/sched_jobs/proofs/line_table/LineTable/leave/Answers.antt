@@ -11,7 +11,7 @@ pub returns-clause-lines : goal.returns-clause-lines
 returns-clause-lines c = λ line shown was.
     left_done c.args.self.now c.deref_mut.result.now c.leave_line.new.nodes c.deref_mut-2.result.now c.leave_line.new.queues c.deref_mut-3.result.now c.set_flag.new.used
     line c.args.job.now.class c.args.job.now.dim c.args.slot 0 c.line_number-at.result c.requires.dim _ shown was
-    (search rules) (search rules) (search rules) c.deref_mut.ensures.value c.deref_mut-2.ensures.value c.deref_mut-3.ensures.value (search rules) (search rules) (search rules)
+    c.deref_mut.ensures.value c.deref_mut-2.ensures.value c.deref_mut-3.ensures.value (search rules) (search rules) (search rules)
     c.line_number-at.ensures (c.leave_line.ensures.lines line) c.set_flag.ensures.here
     (λ none are. c.is_class_empty-is_used.ensures (not_false c.is_class_empty-is_used.result none) c.leave_line.new.nodes (set line c.args.slot None)
     (subst (λ (xs : List QueueData). AreLines c.leave_line.new.nodes xs (set line c.args.slot None)) (sym c.deref.ensures.value)
