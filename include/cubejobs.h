@@ -3,6 +3,7 @@
  *   - cubejobs_fit.h: exact first fit of aligned blocks, in memory of yours;
  *   - cubejobs_regions.h: blocks for threads, with no lock;
  *   - cubejobs_dispatch.h: jobs from threads to workers, each with a block;
+ *   - cubejobs_plan.h: which waiting job starts next, and in which block;
  *   - cubejobs_rounds.h: which rank of a collective sends to which;
  *   - cubejobs_codes.h: what the codes of all calls mean.
  *
@@ -16,6 +17,7 @@
 #include "cubejobs_codes.h"
 #include "cubejobs_dispatch.h"
 #include "cubejobs_fit.h"
+#include "cubejobs_plan.h"
 #include "cubejobs_regions.h"
 #include "cubejobs_rounds.h"
 

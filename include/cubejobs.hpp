@@ -4,15 +4,16 @@
  * cubejobs::machine is a handle of a machine of cubejobs_regions.h, for one thread.
  * cubejobs::first_fit is a machine of cubejobs_fit.h, for one thread at a time, in memory of its own
  * or of yours.
+ * cubejobs::planner is a planner of cubejobs_plan.h, for one thread at a time.
  * cubejobs::lanes and cubejobs::dispatch own those of cubejobs_dispatch.h. They give out a lane for
  * each producer and a worker for each consumer. cubejobs::running is a job on its block.
  *
  * All owners move, and none is copied. One that was moved from is empty: its calls answer NOT_OPEN,
  * and BAD_SIZE that of a first_fit. A machine lasts as long as a handle of it or a block. Lanes
- * last as long as a lane, a worker or a running job. The duties are those of the C headers. These
- * types keep all that is about handles, except that one thread at a time uses a machine's handle, a
- * lane or a worker. Blocks and running jobs use the handle with which they were taken, until
- * machine::adopt gives a block another.
+ * last as long as a lane, a worker or a running job. A planner ends with its owner. The duties are
+ * those of the C headers. These types keep all that is about handles, except that one thread at a
+ * time uses a machine's handle, a planner, a lane or a worker. Blocks and running jobs use the
+ * handle with which they were taken, until machine::adopt gives a block another.
  *
  * An owner that cannot be opened throws a cubejobs::error. Without exceptions (-fno-exceptions) it
  * is empty, and code() has the reason. Where memory of C++ runs out, the program ends then.
@@ -41,6 +42,7 @@
 
 #include "cubejobs_dispatch.h"
 #include "cubejobs_fit.h"
+#include "cubejobs_plan.h"
 #include "cubejobs_regions.h"
 
 namespace cubejobs {
@@ -665,6 +667,56 @@ inline running shop_worker::next() {
     }
 }
 #endif
+
+/* A planner. Its calls are those of cubejobs_plan.h, with the same answers. */
+class planner {
+  public:
+    /* Opens a planner of a machine of 2^dim processors, for as many jobs at once. */
+    planner(std::uint32_t dim, std::uint32_t jobs, std::uint32_t patience = 16)
+        : reason(cubejobs_plan_open(&at, {dim, jobs, patience, 0}, nullptr)) {
+        check(reason);
+    }
+    planner(planner &&other) noexcept { swap(other); }
+    planner &operator=(planner &&other) noexcept {
+        planner(std::move(other)).swap(*this);
+        return *this;
+    }
+    ~planner() { cubejobs_plan_close(&at); }
+    /* Returns why the planner is not open: DONE if it is, NOT_OPEN if it was moved from. */
+    std::uint32_t code() const { return reason; }
+    CUBEJOBS_NODISCARD cubejobs_plan_job submit(const cubejobs_plan_request &job) {
+        return cubejobs_plan_submit(&at, job);
+    }
+    cubejobs_plan_job cancel(std::uint64_t ticket) { return cubejobs_plan_cancel(&at, ticket); }
+    cubejobs_plan_job finish(std::uint64_t ticket) { return cubejobs_plan_finish(&at, ticket); }
+    std::uint32_t occupy(std::uint64_t base, std::uint32_t dim) { return cubejobs_plan_occupy(&at, base, dim); }
+    std::uint32_t vacate(std::uint64_t base, std::uint32_t dim) { return cubejobs_plan_vacate(&at, base, dim); }
+    CUBEJOBS_NODISCARD cubejobs_plan_job next(std::uint64_t now) { return cubejobs_plan_next(&at, now); }
+    cubejobs_plan_job forecast(std::uint64_t ticket) { return cubejobs_plan_forecast(&at, ticket); }
+    cubejobs_plan_job after(std::uint64_t ticket) { return cubejobs_plan_after(&at, ticket); }
+    struct cubejobs_plan_counts counts() { return cubejobs_plan_counts(&at); }
+    /* Starts each job that may start at this time, and passes it to `run`. Returns the code that
+     * ended this: NO_JOB, if all went well. `run` may make calls with the planner. */
+    template <class Run> std::uint32_t start_all(std::uint64_t now, Run run) {
+        for (;;) {
+            const cubejobs_plan_job job = next(now);
+            if (job.code) return job.code;
+            run(job);
+        }
+    }
+    /* Passes each job to `look`, in no order, as cubejobs_plan_after does. */
+    template <class Look> void each(Look look) {
+        for (cubejobs_plan_job job = after(0); job.code == CUBEJOBS_PLAN_DONE; job = after(job.ticket)) look(job);
+    }
+
+  private:
+    void swap(planner &other) noexcept {
+        std::swap(at, other.at);
+        std::swap(reason, other.reason);
+    }
+    cubejobs_plan at = {0, nullptr};
+    std::uint32_t reason = CUBEJOBS_PLAN_NOT_OPEN;
+};
 
 /* An owner of lanes with their handles. One thread at a time uses it. When it ends, the lanes are
  * closed. */

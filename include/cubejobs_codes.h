@@ -1,9 +1,9 @@
 /* What the codes of all libraries mean, for C and C++. The other headers include this one.
  *
  * Each header has an enum of the codes of its own calls. They all share one row of numbers: a code
- * that two headers have is the same number in both, and a number has one meaning. So one function
- * has the text of each code. The numbers 30, 45 to 49, 52 to 54 and 60 are not
- * in use.
+ * that two headers have is the same number in both, and a number has one meaning. Only FULL is two
+ * numbers, one of a lane and one of a planner. So one function has the text of each code. The
+ * numbers 30, 49, 52 to 54 and 60 are not in use.
  */
 #ifndef CUBEJOBS_CODES_H
 #define CUBEJOBS_CODES_H
@@ -87,6 +87,10 @@ CUBEJOBS_INLINE const char *cubejobs_code_text(uint32_t code) {
     case 42: return "other calls were in the way: call again";
     case 43: return "there is no job: park the thread";
     case 44: return "the worker lies down";
+    case 45: return "a number is out of range";
+    case 46: return "the planner has as many jobs as it may have";
+    case 47: return "the job waits or runs, or the block is free or in use";
+    case 48: return "the time is before that of the last call";
     case 50: return "the memory is too small, null, or not at a multiple of 8";
     case 51: return "the bytes are not a sound image of this dimension";
     case 55: return "no shape of messages has this number";

@@ -1,7 +1,8 @@
 //! Links the proved libraries: `libcubejobs_fit.a` and `libcubejobs_rounds.a`, and for the features
-//! `dispatch` and `regions` one more each. They are in the folder that `CUBEJOBS_LIB` names, or else
-//! in `lib/`, which has copies of the files of `release/`: `lib/aarch64` those for aarch64. With the
-//! feature `source`, for another target, and for aarch64 without files for it, it links nothing.
+//! `dispatch`, `plan` and `regions` one more each. They are in the folder that `CUBEJOBS_LIB` names,
+//! or else in `lib/`, which has copies of the files of `release/`: `lib/aarch64` those for aarch64.
+//! With the feature `source`, for another target, and for aarch64 without files for it, it links
+//! nothing.
 
 use std::env;
 use std::path::{Path, PathBuf};
@@ -48,8 +49,10 @@ fn link() -> Result<(), String> {
         return Ok(());
     };
     let dispatch = env::var_os("CARGO_FEATURE_DISPATCH").map(|_| "libcubejobs_dispatch.a");
+    let plan = env::var_os("CARGO_FEATURE_PLAN").map(|_| "libcubejobs_plan.a");
     let regions = env::var_os("CARGO_FEATURE_REGIONS").map(|_| "libcubejobs_regions.a");
-    for name in ["libcubejobs_fit.a", "libcubejobs_rounds.a"].into_iter().chain(dispatch).chain(regions) {
+    let chosen = [dispatch, plan, regions].into_iter().flatten();
+    for name in ["libcubejobs_fit.a", "libcubejobs_rounds.a"].into_iter().chain(chosen) {
         let library = folder.join(name);
         println!("cargo::rerun-if-changed={}", library.display());
         if !library.exists() {

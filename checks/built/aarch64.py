@@ -114,13 +114,13 @@ def must_be_as_here(folder, built, words):
 
 def programs():
     """Yields C programs over the libraries, which must end well."""
-    fit, dispatch, rounds, regions = archive.LIBRARIES
+    fit, plan, dispatch, rounds, regions = archive.LIBRARIES
     for name, library, words in (("fit", fit, ["2000", "1000"]), ("rounds", rounds, []),
                                  ("regions", regions, ["500"]), ("wait", regions, ["100"]), ("lanes", dispatch, ["500"]),
                                  ("dispatch", dispatch, ["500"]), ("asleep", dispatch, ["300"]), ("jobs", dispatch, ["2000"])):
         yield ffi.Program(ffi.CALLS(name), [library], C, (), words, [EMULATOR])
     # Not examples/fit.c: the emulator has no robust locks. There the lock of a process that died stays locked for ever.
-    for name, library in (("rounds", rounds), ("regions", regions), ("arena", regions), ("wait", regions), ("lanes", dispatch)):
+    for name, library in (("rounds", rounds), ("plan", plan), ("regions", regions), ("arena", regions), ("wait", regions), ("lanes", dispatch)):
         yield ffi.Program(f"examples/{name}.c", [library], C, (), (), [EMULATOR], f"examples/{name}.out")
     yield ffi.Program("examples/jobs.cpp", [dispatch], CXX, (), (), [EMULATOR], "examples/jobs.out")
 

@@ -13,6 +13,8 @@ mod fit_ffi;
 mod fit_over;
 #[path = "../../rust/src/place.rs"]
 mod place;
+#[path = "../../rust/src/plan_ffi.rs"]
+mod plan_ffi;
 #[path = "../../rust/src/region.rs"]
 mod region;
 #[path = "../../rust/src/regions_ffi.rs"]
@@ -29,7 +31,9 @@ use region::Region;
 use source::bitmap_tree::HiddenSeat;
 use source::kit::alloc::Global;
 use source::kit::opaque::Opaque;
-use source::{cubejobs_dispatch as jobs, cubejobs_regions as blocks, cubejobs_rounds as rounds};
+use source::{
+    cubejobs_dispatch as jobs, cubejobs_plan as plans, cubejobs_regions as blocks, cubejobs_rounds as rounds,
+};
 
 /// Random numbers, by splitmix64.
 struct Dice(u64);
@@ -543,6 +547,107 @@ fn end_shop(it: &mut Shop) {
     call!(cubejobs_dispatch_free (it.owner, it.other););
 }
 
+/// A planner in both forms, with the tickets of all its jobs, and 0.
+struct Plan {
+    one: plan_ffi::Handle,
+    other: plans::Handle,
+    tickets: Vec<u64>,
+    now: u64,
+}
+
+/// Compares two answers about a job. Returns the ticket.
+fn same_job(what: &str, one: plan_ffi::Job, other: plans::PlanJob) -> u64 {
+    same!(what, one, other, ticket, code, state, payload, base, time, before, arrival, processors, dim, job_class)
+}
+
+impl Plan {
+    fn new() -> Self {
+        let other = plans::Handle { tag: 0, at: Opaque::nothing(Global) };
+        Plan { one: plan_ffi::Handle::SHUT, other, tickets: vec![0], now: 0 }
+    }
+
+    fn open(&mut self, dim: u32, jobs: u32, patience: u32) {
+        let flags = u32::from(jobs == 3);
+        let one = plan_ffi::open(&mut self.one, plan_ffi::Options { dim, jobs, patience, flags });
+        let options = plans::Options { dim, jobs, patience, flags };
+        same!("open", one, plans::cubejobs_plan_open_version(&mut self.other, plans::VERSION, options, 0));
+    }
+
+    fn submit(&mut self, dice: &mut Dice, dim: u32) {
+        let (large, classes) = (1 + dice.small((1 << dim) + 2), 1 + dice.small(9));
+        let (processors, job_class) = (dice.small(large) + dice.small(2), dice.small(classes));
+        let estimate = [0, dice.below(20), dice.below(200), u64::MAX - dice.below(3)][dice.place(4)];
+        let payload = dice.next();
+        let one = plan_ffi::Request { payload, estimate, processors, job_class };
+        let other = plans::PlanRequest { payload, estimate, processors, job_class };
+        let one = plan_ffi::submit(&mut self.one, one);
+        let ticket = same_job("submit", one, plans::cubejobs_plan_submit(&mut self.other, other));
+        self.tickets.push(ticket);
+    }
+
+    /// Ends a job, or asks of it, by a ticket of a job that may be over, or by any number.
+    fn call(&mut self, dice: &mut Dice) {
+        let known = self.tickets[dice.place(self.tickets.len())];
+        let ticket = if dice.below(20) == 0 { known ^ 1 << dice.below(64) } else { known };
+        let (one, other) = (&mut self.one, &mut self.other);
+        match dice.below(6) {
+            0 => same_job("cancel", plan_ffi::cancel(one, ticket), plans::cubejobs_plan_cancel(other, ticket)),
+            1..=3 => same_job("finish", plan_ffi::finish(one, ticket), plans::cubejobs_plan_finish(other, ticket)),
+            4 => same_job("after", plan_ffi::after(one, ticket), plans::cubejobs_plan_after(other, ticket)),
+            _ => same_job("forecast", plan_ffi::forecast(one, ticket), plans::cubejobs_plan_forecast(other, ticket)),
+        };
+    }
+
+    fn use_block(&mut self, dice: &mut Dice, dim: u32) {
+        let most = dice.small(dim + 2);
+        let k = dice.small(most + 1);
+        let base = dice.below(2 << dim) >> k << k | u64::from(dice.below(20) == 0);
+        let (one, other) = (&mut self.one, &mut self.other);
+        match dice.below(2) {
+            0 => same!("occupy", plan_ffi::occupy(one, base, k), plans::cubejobs_plan_occupy(other, base, k)),
+            _ => same!("vacate", plan_ffi::vacate(one, base, k), plans::cubejobs_plan_vacate(other, base, k)),
+        };
+    }
+
+    fn next(&mut self, dice: &mut Dice) {
+        self.now += dice.below(2) * dice.below(30);
+        let now = [self.now.wrapping_sub(1), u64::MAX, self.now][dice.place(40).min(2)];
+        same_job("next", plan_ffi::next(&mut self.one, now), plans::cubejobs_plan_next(&mut self.other, now));
+    }
+
+    fn count(&mut self) {
+        let other = plans::cubejobs_plan_counts(&mut self.other);
+        same!("counts", plan_ffi::counts(&mut self.one), other, code, waiting, running, held, asked, occupied, largest);
+    }
+
+    fn close(&mut self) {
+        same!("close", plan_ffi::close(&mut self.one), plans::cubejobs_plan_close(&mut self.other));
+    }
+}
+
+/// Calls planners, one after another. Some are shut, or refuse their options.
+fn call_plan(dice: &mut Dice, calls: u64) {
+    let mut done = 0;
+    while done < calls {
+        let (mut plan, dim) = (Plan::new(), dice.small(12));
+        let wrong = 20 * u32::from(dice.below(20) == 0);
+        plan.open(dim + wrong, [1, 3, 10, 0, 1000][dice.place(8).min(4)], dice.small(4));
+        let most = dice.below(3000);
+        for call in 0..most {
+            match dice.below(16) {
+                0..=4 => plan.submit(dice, dim),
+                5..=8 => plan.call(dice),
+                9 => plan.use_block(dice, dim),
+                10 => plan.count(),
+                11 if call + 20 > most => plan.close(),
+                _ => plan.next(dice),
+            }
+        }
+        plan.close();
+        done += most;
+    }
+}
+
 fn main() {
     let calls = std::env::args().nth(1).and_then(|word| word.parse().ok()).expect("beside CALLS");
     let mut dice = Dice(1);
@@ -551,5 +656,6 @@ fn main() {
     call_regions(&mut dice, calls);
     call_lanes(&mut dice, calls);
     call_shop(&mut dice, calls);
+    call_plan(&mut dice, calls);
     println!("{calls} calls of each library, and all answers are the same");
 }

@@ -24,17 +24,19 @@ import subprocess
 import tempfile
 from typing import NamedTuple, Sequence
 
-from checks.built import archive, batch, misuse, pinjobs, preload, static, wait_faults
+from checks.built import archive, batch, event_loop, misuse, pinjobs, preload, static, wait_faults
 from checks.lib import erase
 from checks.lib.repository import files_below, path, read
 from checks.lib.rows import Row, Skipped, answer, must, put, run_rows
 from checks.lib.toolchain import AFTER_GATE, FOR_ANY
 
-FIT, DISPATCH, ROUNDS, REGIONS = archive.LIBRARIES
+FIT, PLAN, DISPATCH, ROUNDS, REGIONS = archive.LIBRARIES
 OF_REGIONS = ("cube_shape", "region_bits", "bitmap_tree", "bitmap_occupancy", "hidden_box")
 OF_ROUNDS = ("collectives", "cube_shape", "rank_steps")
+OF_PLAN = ("cube_shape", "fit_tree", "block_trees", "wait_queue", "sched_blocks", "sched_jobs", "sched_core", "hidden_box")
 OF_DISPATCH = ("bitmap_tree", "hidden_box", "job_lanes", "kept_places", "region_shop", "shop_owner")
-BELOW = {FIT: ("cube_shape", "fit_tree", "region_bits"), DISPATCH: OF_DISPATCH, REGIONS: OF_REGIONS, ROUNDS: OF_ROUNDS}
+BELOW = {FIT: ("cube_shape", "fit_tree", "region_bits"), PLAN: OF_PLAN, DISPATCH: OF_DISPATCH, REGIONS: OF_REGIONS,
+         ROUNDS: OF_ROUNDS}
 # What the names of rows begin with that look into archives.
 OF_ARCHIVES = ("names of its own", "the Rust package")
 LONGER, SECONDS, HALF_AN_HOUR = 100, 7200, 1800
@@ -137,6 +139,7 @@ def programs(longer):
         yield Program("examples/fit.c", [FIT], compiler, shown="examples/fit.out")
         yield Program(CALLS("rounds"), [ROUNDS], compiler)
         yield Program("examples/rounds.c", [ROUNDS], compiler, shown="examples/rounds.out")
+        yield Program("examples/plan.c", [PLAN], compiler, shown="examples/plan.out")
 
 
 WRAPPED_FIT = ",".join(f"--wrap=cubejobs_image_{it}" for it in ("take", "release", "split", "join", "repair", "check"))
@@ -261,7 +264,7 @@ def rows_of_owners(room, longer):
     """Yields the owners of C++, the workers that sleep, and the batch scheduler."""
     for compiler in ([*CXX, *ADDRESSES], CXX_17, [*CXX_20, *ADDRESSES], CLANG_20, RACES_20):
         placed, name = PLACED if compiler is RACES_20 else (), "checks/built/owners_calls.cpp"
-        program = Program(name, [REGIONS, FIT, DISPATCH], [*compiler, MOVES], placed=placed)
+        program = Program(name, [REGIONS, FIT, PLAN, DISPATCH], [*compiler, MOVES], placed=placed)
         yield Row(" ".join([name, "by", *placed, *compiler]), must_run, (room, program))
         program = Program("checks/built/owners_codes.cpp", program.libraries, [*compiler, "-fno-exceptions"], placed=placed)
         yield Row(" ".join([program.source, "by", *placed, *program.compiler]), must_run, (room, program))
@@ -343,16 +346,17 @@ def rows(room, longer, seconds):
     yield from rows_of_waits(room)
     yield from rows_of_owners(room, longer)
     yield from misuse.rows(room, *(f"{room}/lib{it}.a" for it in (REGIONS, DISPATCH, FIT)))
-    for compiler in (CHECKED, [*CLANG[:2], "-xc"]):
-        program = Program("examples/pinjobs.c", [FIT], compiler)
-        yield Row(f"{program.source} by {' '.join(compiler)}", pinjobs.must_work, (room, program))
-    for what, old, new in pinjobs.WRONG_PROGRAMS:
-        yield Row(f"{what}: it is seen", pinjobs.must_see, (room, Program("examples/pinjobs.c", [FIT], C), old, new))
+    for source, example in (("examples/pinjobs.c", pinjobs), ("examples/event_loop.c", event_loop)):
+        for compiler in (CHECKED, [*CLANG[:2], "-xc"]):
+            program = Program(source, [PLAN], compiler)
+            yield Row(f"{source} by {' '.join(compiler)}", example.must_work, (room, program))
+        for what, old, new in example.WRONG_PROGRAMS:
+            yield Row(f"{what}: it is seen", example.must_see, (room, Program(source, [PLAN], C), old, new))
     for program in programs(longer):
         yield Row(f"{program.source} by {' '.join(program.compiler)}", must_run, (room, program))
     yield from rows_of_fit(room)
     # A library keeps its names to itself: it is linked whole beside the other one, and beside a program's own names.
-    for whole in ([FIT, DISPATCH, ROUNDS, REGIONS], [REGIONS, ROUNDS, DISPATCH, FIT], []):
+    for whole in ([FIT, PLAN, DISPATCH, ROUNDS, REGIONS], [REGIONS, ROUNDS, DISPATCH, PLAN, FIT], []):
         both = ["-Wl,--whole-archive", *whole, "-Wl,--no-whole-archive"] if whole else [REGIONS]
         names = Program("examples/regions.c", both, C, ["-xc", f"{room}/own.c", "-xnone"], shown="examples/regions.out")
         yield Row(f"names of its own, and {' and '.join(whole) or REGIONS}", must_run, (room, names))

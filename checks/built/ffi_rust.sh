@@ -57,7 +57,17 @@ batch() {
     ended=$1
 }
 
-libraries='libcubejobs_fit.a libcubejobs_rounds.a libcubejobs_dispatch.a libcubejobs_regions.a'
+# event_loop WORD..: the example, built with these words, obeys a file of lines. The first job waits until the second one
+# is cancelled, so the order of what it shows is known.
+event_loop() {
+    quiet cargo build --quiet --offline "$@" --example event_loop
+    "$CARGO_TARGET_DIR/debug/examples/event_loop" 2 < "$work/lines" > "$work/shown" 2> "$work/said" \
+        || { echo "ffi: event_loop fails:"; cat "$work/said"; exit 1; }
+    cat "$work/shown" "$work/said" | diff "$work/wanted" - > "$work/log" \
+        || { echo "ffi: event_loop, wanted and shown:"; cat "$work/log"; exit 1; }
+}
+
+libraries='libcubejobs_fit.a libcubejobs_rounds.a libcubejobs_dispatch.a libcubejobs_plan.a libcubejobs_regions.a'
 jobs='40 jobs ran on 248 processors in all'
 first_fit='0..2 4..8, then: a part of each block of this dimension is in use'
 groups='3000 jobs on groups of 16 workers'
@@ -65,7 +75,7 @@ blocks='4000 blocks with 24800 processors in all'
 global_alloc='59452000 bytes in vectors, and each had one owner'
 
 quiet cargo test --offline
-for features in '' dispatch 'dispatch std' regions 'regions std' 'dispatch regions'; do
+for features in '' dispatch 'dispatch std' plan 'plan std' regions 'regions std' 'dispatch regions'; do
     quiet cargo check --offline --no-default-features --features "$features" --all-targets
 done
 if cargo clippy --version > "$work/log" 2>&1; then
@@ -96,6 +106,39 @@ refused 'Error: "line 2: the dimension is a number from 0 to 4"' \
 printf '1 5\n\n' > "$work/wrong"
 refused 'Error: "line 2: a job is DIM MILLISECONDS"' \
     cargo run --quiet --offline --example batch -- "$work/wrong" < /dev/null
+cat > "$work/lines" << END
+4 0 until grep -q '^2 is cancelled' '$work/shown'; do sleep 0.01; done
+2 9 true
+3 0 exit 7
+4 1 echo "on \$CUBEJOBS_PROCESSORS"
+5 1 true
+1 1
+x 1 true
+
+cancel 5
+cancel 1
+cancel 2
+4 0 kill \$\$
+END
+cat > "$work/wanted" << 'END'
+1 starts on 0-3
+2 is cancelled
+1 ends with 0
+3 starts on 0-2
+3 ends with 7
+4 starts on 0-3
+on 0-3
+4 ends with 0
+5 starts on 0-3
+5 was ended by a signal
+'5 1 true': the number of processors or the class is out of range
+'1 1': there is no command
+'x 1 true': invalid digit found in string
+'': there is no command
+'cancel 5': no such job
+'cancel 1': the job runs and cannot be cancelled, or it waits and cannot end
+END
+event_loop
 echo "ffi: the tests, documents and examples of the Rust package pass, with no warning"
 
 user "$work/user" "{ path = \"$package\" }"
@@ -124,7 +167,7 @@ echo "ffi: a Rust program names the package by its path; a missing library is on
 mkdir "$work/empty_lib"
 export CUBEJOBS_LIB="$work/empty_lib"
 quiet cargo test --offline --features source
-for features in '' dispatch 'dispatch std' regions 'regions std' 'dispatch regions'; do
+for features in '' dispatch 'dispatch std' plan 'plan std' regions 'regions std' 'dispatch regions'; do
     quiet cargo check --offline --no-default-features --features "source $features" --all-targets
 done
 if cargo clippy --version > "$work/log" 2>&1; then
@@ -138,6 +181,7 @@ shows "$blocks" cargo run --quiet --offline --features source --example blocks
 shows "$global_alloc" cargo run --quiet --offline --features source --example global_alloc
 shows "$jobs" cargo run --quiet --offline --features source --example jobs
 shows 55 cargo run --quiet --offline --features source --example park
+event_loop --features source
 quiet cargo test --offline -p cubejobs-pool --features cubejobs/source
 echo "ffi: the form of plain Rust passes the tests, documents and examples of the Rust package and of the pool"
 

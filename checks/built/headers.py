@@ -1,7 +1,8 @@
 """Compiles the headers in `include/` in each C from C89 to C23 and each C++ from C++98 to C++23, with no warning.
 
 Each header stands alone, and all stand together in either order, under gcc and clang, and the sanitizers of which a
-header knows. Some begin with a later standard. A struct of a header has a name that C++ can say. A line names each
+header knows. Some begin with a later standard. C++ can say the name of each struct, where that of NAMED_TWICE needs the
+word `struct`, as `stat` does. A line names each
 compiler that is not there and each standard that it does not know. Headers with a fault must be refused. So must a call
 whose result is ignored, and a switch without one of the codes. `checks/run headers FOLDER` takes other headers.
 """
@@ -15,7 +16,10 @@ from typing import NamedTuple
 from checks.lib.repository import path, read, write
 from checks.lib.rows import Row, Skipped, answer, must, run_rows
 
-NAMES = ("cubejobs.h", "cubejobs_codes.h", "cubejobs_dispatch.h", "cubejobs_fit.h", "cubejobs_regions.h", "cubejobs_rounds.h")
+NAMES = ("cubejobs.h", "cubejobs_codes.h", "cubejobs_dispatch.h", "cubejobs_fit.h", "cubejobs_plan.h",
+         "cubejobs_regions.h", "cubejobs_rounds.h")
+# A struct with the name of the function that returns it.
+NAMED_TWICE = ("cubejobs_plan_counts",)
 # Headers that begin with a later standard, and those in which they have no part.
 LATER = {"cubejobs_wait.h": ("c89", "c99", "c++98"), "cubejobs.hpp": ("c89", "c99", "c11", "c17", "c2x", "c++98")}
 NOWHERE = ["-o", "/dev/null"]
@@ -39,8 +43,10 @@ class Call(NamedTuple):
     code: str = ""
 
 
-REGIONS, LANES, FIT = "cubejobs_regions.h", "cubejobs_dispatch.h", "cubejobs_fit.h"
+REGIONS, LANES, FIT, PLAN = "cubejobs_regions.h", "cubejobs_dispatch.h", "cubejobs_fit.h", "cubejobs_plan.h"
 OF_FIT = "struct cubejobs_fit fit; (void)&fit"
+OF_PLAN = "struct cubejobs_plan plan; static struct cubejobs_plan_options options; static struct cubejobs_plan_request "
+OF_PLAN += "request; (void)&plan; (void)&options; (void)&request"
 OF_REGIONS = "struct cubejobs_regions one, other; static struct cubejobs_block block, half; (void)&other; (void)&half; (void)&block"
 OF_LANES = "struct cubejobs_lanes lanes; static struct cubejobs_lane lane; static struct cubejobs_worker worker; static struct "
 OF_LANES += "cubejobs_shared_lane shared, more; (void)&lanes; (void)&lane; (void)&worker; (void)&shared; (void)&more"
@@ -65,11 +71,16 @@ CALLS = (
     Call(FIT, OF_FIT, "cubejobs_fit_take_at(&fit, 2, 1)", ".code"),
     Call(FIT, OF_FIT, "cubejobs_fit_split(&fit, 2, 1)"),
     Call(FIT, OF_FIT, "cubejobs_fit_join(&fit, 2, 1)"),
+    Call(PLAN, OF_PLAN, "cubejobs_plan_open(&plan, options, 0)"),
+    Call(PLAN, OF_PLAN, "cubejobs_plan_submit(&plan, request)", ".code"),
+    Call(PLAN, OF_PLAN, "cubejobs_plan_next(&plan, 1)", ".code"),
 )
 # Each header with an enum of codes: what has one, and how it is read.
 KINDS = (
     (FIT, "cubejobs_fit_code", ("struct cubejobs_fit_answer", "it.code")),
     (FIT, "cubejobs_fit_code", ("struct cubejobs_fit_occupancy_answer", "it.code")),
+    (PLAN, "cubejobs_plan_code", ("struct cubejobs_plan_job", "it.code")),
+    (PLAN, "cubejobs_plan_code", ("struct cubejobs_plan_counts", "it.code")),
     (REGIONS, "cubejobs_regions_code", ("struct cubejobs_regions_answer", "cubejobs_regions_code_of(it)")),
     (REGIONS, "cubejobs_regions_code", ("struct cubejobs_regions_occupancy_answer", "it.code")),
     (LANES, "cubejobs_dispatch_code", ("struct cubejobs_submit_answer", "it.code")),
@@ -88,8 +99,8 @@ def source(folder, names, language):
     """Returns a program text that has these headers, the first of them twice, and names each of their structs."""
     lines = [f'#include "{name}"' for name in [*names, names[0]]]
     structs = [it for name in names for it in re.findall(r"^struct (\w+) \{", read(folder, name), re.M)]
-    said = "struct " if language == "c" else ""
-    return "\n".join(lines + [f"extern {said}{it} one_{it};" for it in structs]) + "\n"
+    said = {it: "struct " if language == "c" or it in NAMED_TWICE else "" for it in structs}
+    return "\n".join(lines + [f"extern {said[it]}{it} one_{it};" for it in structs]) + "\n"
 
 
 def refusal(folder, compiler, standard, names, flags=()):

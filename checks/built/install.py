@@ -22,7 +22,7 @@ from checks.lib.rows import AS_NOBODY, Row, Skipped, answer, must, output, put, 
 from checks.source import version
 
 # The examples in C and C++ that end by themselves, with the words that they need. Their output is beside them.
-EXAMPLES = ("arena.c", "blocks.cpp", "fit.c", "jobs.cpp", "lanes.c", "regions.c", "rounds.c", "wait.c")
+EXAMPLES = ("arena.c", "blocks.cpp", "fit.c", "jobs.cpp", "lanes.c", "plan.c", "regions.c", "rounds.c", "wait.c")
 # The examples in Rust, with what each prints. In `blocks` there are 800 blocks each of 1, 2, 4, 8 and 16 processors, and
 # in `park` the payloads 1 to 10 are added up. In `global_alloc` each of 4 threads makes vectors of 1 + 7t mod 3000 bytes for
 # each t below 10,000.
@@ -46,8 +46,8 @@ NUMBER, _, DEV = version.of_sources().partition("-")
 OTHER = "compatible with requested version"
 PACKAGES = (
     ("cubejobs", ""), (f"cubejobs {NUMBER} REQUIRED", DEV and OTHER), ("cubejobs 0.1 REQUIRED", OTHER),
-    ("cubejobs 99.0 REQUIRED", OTHER), ("cubejobs REQUIRED COMPONENTS fit regions_static dispatch rounds", ""),
-    ("cubejobs REQUIRED COMPONENTS fit nonsense", "cubejobs has no component nonsense, but fit, regions, dispatch and rounds"),
+    ("cubejobs 99.0 REQUIRED", OTHER), ("cubejobs REQUIRED COMPONENTS fit plan regions_static dispatch rounds", ""),
+    ("cubejobs REQUIRED COMPONENTS fit nonsense", "cubejobs has no component nonsense, but fit, plan, regions, dispatch and rounds"),
     ("cubejobs REQUIRED OPTIONAL_COMPONENTS nonsense", ""))
 # Versions, how pkg-config and CMake must compare them, and which requests of CMake they must serve or refuse.
 VERSIONS = (
@@ -62,14 +62,14 @@ VERSIONS = (
 # The files of each part, as patterns of their paths below the prefix: each file fits one, and each pattern has a file.
 DOC = r"share/doc/cubejobs"
 PARTS = {
-    "c": (r"include/cubejobs\w*\.(c|h|hpp)", r"lib/libcubejobs_(fit|regions|dispatch|rounds)\.a",
-          r"lib/libcubejobs_(fit|regions|dispatch|rounds)\.so(\.\d+\.\d+(\.\d+)?)?", r"lib/pkgconfig/cubejobs\w*\.pc",
+    "c": (r"include/cubejobs\w*\.(c|h|hpp)", r"lib/libcubejobs_(fit|plan|regions|dispatch|rounds)\.a",
+          r"lib/libcubejobs_(fit|plan|regions|dispatch|rounds)\.so(\.\d+\.\d+(\.\d+)?)?", r"lib/pkgconfig/cubejobs\w*\.pc",
           r"lib/cmake/cubejobs/cubejobs-config(-version)?\.cmake", r"share/man/man3/cubejobs_\w+\.3", rf"{DOC}/docs/C\.md",
-          rf"{DOC}/examples/\w+\.c(pp)?", rf"{DOC}/examples/(?!processes)\w+\.out", rf"{DOC}/examples/batch\.jobs",
+          rf"{DOC}/examples/\w+\.c(pp)?", rf"{DOC}/examples/(?!processes|day)\w+\.out", rf"{DOC}/examples/batch\.jobs",
           rf"{DOC}/examples/mpi/\w+\.(c|md)"),
     "rust": (r"share/cubejobs/rust/.*", rf"{DOC}/docs/(RUST|SOURCE)\.md", rf"{DOC}/examples/batch\.jobs"),
-    "python": (r"share/cubejobs/python/cubejobs/(\w+\.py|py\.typed)", rf"{DOC}/examples/processes\.(py|out)",
-               r"lib/libcubejobs_(fit|regions)\.so\.\d+\.\d+(\.\d+)?"),
+    "python": (r"share/cubejobs/python/cubejobs/(\w+\.py|py\.typed)", rf"{DOC}/examples/(processes|day)\.(py|out)",
+               r"lib/libcubejobs_(fit|plan|regions)\.so\.\d+\.\d+(\.\d+)?"),
     "program": (r"bin/cubejobs", r"share/man/man1/cubejobs\.1", r"share/cubejobs/index\.html",
                 r"share/bash-completion/completions/cubejobs", r"share/zsh/site-functions/_cubejobs",
                 r"share/fish/vendor_completions\.d/cubejobs\.fish", rf"{DOC}/docs/GUIDE\.md",

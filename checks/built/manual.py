@@ -14,6 +14,7 @@ from checks.source import version
 # Each library: its header, and the other headers that belong to its page.
 LIBRARIES = {
     "cubejobs_fit": ("cubejobs_fit.h", "exact first fit of aligned blocks"),
+    "cubejobs_plan": ("cubejobs_plan.h", "which waiting job starts next, and in which block"),
     "cubejobs_regions": ("cubejobs_regions.h", "lock-free allocator of aligned blocks"),
     "cubejobs_dispatch": ("cubejobs_dispatch.h", "job lanes, and a dispatcher of jobs with blocks"),
     "cubejobs_rounds": ("cubejobs_rounds.h", "the messages of collectives"),

@@ -2,22 +2,28 @@
 a folder, or those of release/.
 
 It runs 500 random jobs of every kind, by rounds and by MPI's own collectives, and compares the bytes with those of
-`cubejobs run`. Of what the trace says it holds each block to first fit over a plain model. While a job waits, every
-processor must be held. The messages of each job must be those of the textbook's trees and exchanges. Wrong programs
-must be seen, and bad files named by line and field. It is skipped where mpicc or mpirun is not there.
+`cubejobs run`. Each decision that the trace has must be that of the plain model of the planner. The messages of each job
+must be those of the textbook's trees and exchanges. Ctrl-C must cancel what waits. Wrong programs must be seen, and bad
+files named by line and field. It is skipped where mpicc or mpirun is not there.
 """
 import collections
 import os
 import random
 import shutil
+import signal
+import subprocess
 import tempfile
+import time
 
+from checks.built.plan_model import DONE, NO_JOB, Model
 from checks.lib.repository import path, read
-from checks.lib.rows import Row, Skipped, Wrong, answer, must, output, put, run_rows
+from checks.lib.rows import Row, Skipped, Wrong, answer, comes, must, output, put, run_rows
 
 RELEASE, SOURCE = path("release", "linux-x86_64"), "examples/mpi/cubempi.c"
 DIM, JOBS, SECONDS = 3, 500, 60
-LIBRARIES = ("libcubejobs_fit.a", "libcubejobs_rounds.a")
+LIBRARIES = ("libcubejobs_plan.a", "libcubejobs_rounds.a")
+# How often the jobs come again in a run that Ctrl-C ends.
+AGAIN = 100
 STRICT = ["-std=c11", "-O2", "-Wall", "-Wextra", "-Werror", "-pedantic", f"-I{path('include')}"]
 # Open MPI refuses more ranks than cores, and the superuser, unless it is asked. Ranks that wait yield to others.
 OF_OPEN_MPI = ["--oversubscribe", "--allow-run-as-root"]
@@ -27,9 +33,8 @@ HEADER = "lane,kind,op,root,items\n"
 # What is wrong with a program: its text, and the text that replaces it.
 WRONG = (
     ("the root is ignored", "t->dim, t->root, me, round)", "t->dim, 0, me, round)"),
-    ("each job gets the first block", "(block = cubejobs_fit_take(&fit, k))",
-     "(block = (struct cubejobs_fit_answer){0, k, 0})"),
-    ("one job runs at a time", "start(next, block.base);", "start(next++, block.base); break;"),
+    ("each job gets the first block", "start((int)it.payload, (int)it.base)", "start((int)it.payload, 0)"),
+    ("estimates are left out", "return 500 * (job->dim + 1)", "return job->dim * 0"),
     ("a message is not counted", "part->to[round] = to == MPI_PROC_NULL", "part->to[round] = to != MPI_PROC_NULL"),
 )
 # Lines that are no jobs of a machine of 8 processors, and the fields that are named.
@@ -90,44 +95,43 @@ def messages(kind, k, root):
     return set(pairs)
 
 
-class Machine:
-    """A plain model of the machine: which job holds each processor."""
+class Plan:
+    """The plain model of the planner, with all jobs of a file."""
 
-    def __init__(self):
-        self.held, self.taken, self.most = [None] * (1 << DIM), 0, 0
+    def __init__(self, dims):
+        self.model, self.most = Model(DIM, len(dims), 16), 0
+        for job, k in enumerate(dims):
+            self.model.submit(job, 500 * (k + 1), 1 << k, 0)
 
-    def take(self, job, base, k):
-        size = 1 << k
-        fits = [it for it in range(0, 1 << DIM, size) if not any(self.held[it : it + size])]
-        must(fits and fits[0] == base, f"job {job} of dimension {k} is at {base}, and first fit is {fits[:1]}")
-        self.held[base : base + size] = [f"job {job}"] * size
-        self.taken, self.most = self.taken + 1, max(self.most, len({*self.held} - {None}))
+    def start(self, job, base, now):
+        code, told = self.model.next(now)
+        must(code == DONE and (told[8], told[1]) == (job, base), f"job {job} starts at {base}, and the model says {told}")
+        self.most = max(self.most, self.model.counts()[1])
 
-    def release(self, job):
-        is_full = None not in self.held
-        must(is_full or self.taken == JOBS, f"a job waits, and {self.held.count(None)} processors are free")
-        self.held = [None if it == f"job {job}" else it for it in self.held]
+    def rest(self, now):
+        must(self.model.next(now)[0] == NO_JOB, "a job may start, and none does")
+
+    def end(self, job):
+        must(self.model.finish(job)[0] == DONE, f"job {job} does not run")
 
 
 def must_be_traced(trace, text):
-    """Sees that blocks are first fits, and messages those of the jobs. Returns how many jobs ran at once at most."""
+    """Sees that decisions are those of the model, and messages those of the jobs. Returns how many jobs ran at once at
+    most."""
     jobs = [line.split(",") for line in text.splitlines()[1:]]
-    machine, sent, dims = Machine(), collections.defaultdict(set), {}
+    dims = [(len(items.split()) - 1).bit_length() for _, _, _, _, items in jobs]
+    plan, sent = Plan(dims), collections.defaultdict(set)
     for word, *numbers in (line.rstrip("\n").split(",") for line in open(trace, encoding="utf-8")):
         job, *rest = map(int, numbers)
         if word == "sent":
             must(tuple(rest) not in sent[job], f"job {job} sent {rest} twice")
             sent[job].add(tuple(rest))
-        elif word == "take":
-            machine.take(job, *rest)
-            dims[job] = rest[1]
         else:
-            machine.release(job)
-    must(sorted(dims) == [*range(JOBS)] and not any(machine.held), "not each job ran once")
-    for job, (_, kind, _, root, items) in enumerate(jobs):
-        k = (len(items.split()) - 1).bit_length()
-        must(dims[job] == k and sent[job] == messages(kind, k, int(root)), f"job {job} has other messages: {jobs[job]}")
-    return machine.most
+            getattr(plan, word)(job, *rest)
+    must(not plan.model.jobs, "not each job ran once")
+    for job, (_, kind, _, root, _) in enumerate(jobs):
+        must(sent[job] == messages(kind, dims[job], int(root)), f"job {job} has other messages: {jobs[job]}")
+    return plan.most
 
 
 def must_run(program, room, text, want, split):
@@ -139,6 +143,24 @@ def must_run(program, room, text, want, split):
     must(status == 0, f"status {status}: {said.decode(errors='replace')[-1000:]}")
     must(out.decode() == want, "the output is not that of `cubejobs run`")
     return "" if split else f"at most {must_be_traced(f'{room}/trace', text)} jobs at once"
+
+
+def must_stop(program, room, text):
+    """Sees that Ctrl-C cancels what waits: the output has the jobs that have run, and they are those of the trace."""
+    header, _, lines = text.partition("\n")
+    put(f"{room}/many.csv", f"{header}\n{lines * AGAIN}")
+    words = ["mpirun", *(OF_OPEN_MPI if is_open_mpi() else []), "-n", str((1 << DIM) + 1), program]
+    words += ["--trace", f"{room}/stopped", "--out", f"{room}/out", f"{room}/many.csv"]
+    with subprocess.Popen(words, env={**os.environ, **QUIET}, stderr=subprocess.DEVNULL) as ran:
+        must(comes(lambda: os.path.exists(f"{room}/stopped") and os.path.getsize(f"{room}/stopped"), SECONDS), "no job starts")
+        time.sleep(0.2)
+        ran.send_signal(signal.SIGINT)
+        ran.wait(SECONDS)
+    words = [line.split(",")[0] for line in open(f"{room}/stopped", encoding="utf-8")]
+    rows_of_jobs = read(f"{room}/out").count("\n") - 1
+    must(rows_of_jobs == words.count("end") == words.count("start"), f"{rows_of_jobs} rows, {words.count('start')} starts")
+    must(0 < rows_of_jobs < JOBS * AGAIN, f"{rows_of_jobs} jobs ran")
+    return f"{rows_of_jobs} of {JOBS * AGAIN} jobs"
 
 
 def must_see(folder, room, text, want, old, new):
@@ -180,6 +202,8 @@ def rows(folder, room):
     for split in (False, True):
         title = f"{JOBS} jobs by {'MPI' if split else 'rounds'}"
         yield Row(title, must_run, (program, room, text, want, split))
+    if is_open_mpi():
+        yield Row("Ctrl-C", must_stop, (program, room, text))
     for number, (line, field) in enumerate(BAD):
         before = "0,scan,add,0,1\n" * (number % 3)
         said = f":{2 + number % 3}: bad {field}"

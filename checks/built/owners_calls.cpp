@@ -23,6 +23,7 @@ template <class T> constexpr bool only_moves() {
 }
 static_assert(only_moves<block>() && only_moves<machine>(), "an owner of regions is copied");
 static_assert(only_moves<first_fit>() && only_moves<first_fit::block>(), "an owner of first fit is copied");
+static_assert(only_moves<cubejobs::planner>(), "a planner is copied");
 static_assert(only_moves<cubejobs::lane>() && only_moves<cubejobs::shared_lane>(), "a lane is copied");
 static_assert(only_moves<cubejobs::worker>() && only_moves<cubejobs::lanes>(), "an owner of lanes is copied");
 static_assert(only_moves<cubejobs::shop_lane>() && only_moves<cubejobs::shop_worker>(), "a handle is copied");
@@ -55,6 +56,32 @@ static void blocks() {
     expect(!other && !mine.split(other) && mine.occupancy().held == 0, "a release");
     block single = mine.take(0);
     expect(!mine.split(single) && single && mine.occupancy().held == 1, "one processor has no halves");
+}
+
+// Eight processors: the first job has half of them for 10, the second one wants all, and the third one, which is brief,
+// passes it.
+static void plans() {
+    cubejobs::planner first(3, 4, 0);
+    const std::uint64_t half = first.submit({1, 10, 4, 0}).ticket, whole = first.submit({2, 5, 8, 0}).ticket;
+    std::vector<std::uint64_t> started;
+    const auto note = [&started](const cubejobs_plan_job &job) { started.push_back(job.payload); };
+    expect(first.start_all(7, note) == CUBEJOBS_PLAN_NO_JOB && started == std::vector<std::uint64_t>{1}, "a start");
+    cubejobs::planner mine(std::move(first));
+    expect(first.code() == CUBEJOBS_PLAN_NOT_OPEN && first.next(8).code == CUBEJOBS_PLAN_NOT_OPEN, "a planner that moved");
+    expect(first.start_all(8, note) == CUBEJOBS_PLAN_NOT_OPEN && mine.code() == CUBEJOBS_PLAN_DONE, "a move");
+    const cubejobs_plan_job waits = mine.forecast(whole);
+    expect(waits.state == CUBEJOBS_PLAN_RESERVED && waits.time == 17 && waits.base == 0, "a promise");
+    expect(mine.submit({3, 10, 4, 0}).code == CUBEJOBS_PLAN_DONE && mine.next(7).payload == 3, "a job that passes");
+    expect(mine.next(6).code == CUBEJOBS_PLAN_TIME_BACK, "a time that goes back");
+    unsigned seen = 0;
+    mine.each([&seen](const cubejobs_plan_job &job) { seen += 1u << job.payload; });
+    expect(seen == 14 && mine.counts().running == 2 && mine.counts().waiting == 1, "all jobs");
+    expect(mine.cancel(half).code == CUBEJOBS_PLAN_WRONG_STATE && mine.finish(half).payload == 1, "an end");
+    expect(mine.cancel(whole).payload == 2 && mine.cancel(whole).code == CUBEJOBS_PLAN_NO_JOB, "a cancel");
+    expect(mine.occupy(0, 2) == CUBEJOBS_PLAN_DONE && mine.vacate(4, 2) == CUBEJOBS_PLAN_WRONG_STATE, "out of service");
+    expect(mine.vacate(0, 2) == CUBEJOBS_PLAN_DONE && mine.counts().occupied == 0, "in service");
+    mine = cubejobs::planner(1, 1);
+    expect(mine.counts().running == 0 && mine.counts().largest == 2, "an assignment closes");
 }
 
 static void lifetimes() {
@@ -431,6 +458,7 @@ static void older() {}
 int main() {
     alarm(60); /* a wake that is lost ends the program */
     blocks();
+    plans();
     lifetimes();
     exact();
     exact_in_memory();

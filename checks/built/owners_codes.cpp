@@ -22,6 +22,9 @@ int main() {
     std::uint64_t memory[14] = {};
     cubejobs::first_fit bare = cubejobs::first_fit::attach(memory, sizeof memory, 3);
     expect(bare.code() == CUBEJOBS_FIT_BAD_IMAGE && !bare.take(0), "no image");
+    cubejobs::planner vast(21, 1), plan(3, 1);
+    expect(vast.code() == CUBEJOBS_PLAN_OUT_OF_RANGE && plan.code() == CUBEJOBS_PLAN_DONE, "planners");
+    expect(vast.next(0).code == CUBEJOBS_PLAN_NOT_OPEN && vast.counts().code == CUBEJOBS_PLAN_NOT_OPEN, "no planner");
     cubejobs::lanes empty(0, 1, 1), lanes(1, 1, 2);
     expect(empty.code() == CUBEJOBS_DISPATCH_BAD_SIZES && !empty.lane() && !empty.worker(), "lanes of no size");
     cubejobs::lane lane = lanes.lane();

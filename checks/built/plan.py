@@ -1,39 +1,22 @@
 """Plays random events on the scheduler in its source form and on a plain model of it, and compares all answers.
 
-`checks/run plan [--long]` erases `sched_core` and the crates below it to Rust, and builds them with plan.rs. plan_store.rs
-stands for `fixed_vec`. It plays
-60,000 events, and with `--long` 1,000,000: machines of up to 256 processors, jobs of all classes, blocks that go out of
-service and return, jobs that end late, full tables. plan_model.py is the model.
+`checks/run plan [--long]` builds plan.rs over `rust/src/source`. It plays 60,000 events, and with `--long` 1,000,000:
+machines of up to 256 processors, jobs of all classes, blocks that go out of service and return, jobs that end late, full
+tables. plan_model.py is the model.
 
 It must see slips.
 """
 import os
 import random
-import re
 import shutil
 import tempfile
-from typing import NamedTuple
 
+from checks.built.beside import WORDS, Slip, copied
 from checks.built.plan_model import DONE, NEVER, NO_JOB, Model
-from checks.lib import erase
-from checks.lib.repository import read, write
 from checks.lib.rows import Row, Skipped, Wrong, answer, must, run_rows
 
 EVENTS, MANY, AT_ONCE, SECONDS = 60_000, 1_000_000, 4000, 1800
-PROGRAM, STORE, SHIM = "checks/built/plan.rs", "checks/built/plan_store.rs", "rust/src/source/kit"
-CRATES = ("cube_shape", "fit_tree", "sched_law", "block_trees", "wait_queue", "sched_blocks", "sched_jobs", "sched_core")
-# The modules of the shim that these crates use, and a text of it that gets a `derive`.
-PARTS, PRELUDE, LIST = ("alloc", "collections", "heap"), r"/// The names that are known everywhere.*", "        pub struct $list<T>($inner);"
-
-
-class Slip(NamedTuple):
-    """A slip: its name, a file of the source form, a text of it, and what is put there."""
-
-    name: str
-    file: str
-    old: str
-    new: str
-
+PROGRAM = "checks/built/plan.rs"
 
 SLIPS = (
     Slip("a job without an estimate is brief", "sched_core/small.rs", "return 0;", "return NEVER;"),
@@ -121,23 +104,10 @@ def built(folder, slip=None):
     """Builds the program in a folder, with a slip, and returns its path."""
     if not shutil.which("rustc"):
         raise Skipped("there is no rustc")
-    texts = {f"kit/{it}.rs": read(f"{SHIM}/{it}.rs") for it in PARTS}
-    must(texts["kit/collections.rs"].count(LIST) == 1, f"{SHIM}/collections.rs has not the text {LIST}")
-    texts["kit/collections.rs"] = texts["kit/collections.rs"].replace(LIST, f"        #[derive(Debug)]\n{LIST}")
-    texts["kit/mod.rs"] = "".join(f"pub mod {it};\n" for it in PARTS) + re.search(PRELUDE, read(f"{SHIM}/mod.rs"), re.S)[0]
-    texts["mod.rs"] = "".join(f"pub mod {it};\n" for it in ("kit", "fixed_vec", *CRATES))
-    texts["fixed_vec.rs"] = read(STORE)
-    for crate in CRATES:
-        known = erase.erased_apart(crate, ("fixed_vec", *CRATES))
-        texts.update({f"{crate}/{name}.rs": text for name, text in known.items()})
-    if slip:
-        must(texts[slip.file].count(slip.old) == 1, f"the text {slip.old!r} is not there once")
-        texts[slip.file] = texts[slip.file].replace(slip.old, slip.new)
-    for name, text in texts.items():
-        write(f"{folder}/source/{name}", text)
-    write(f"{folder}/plan.rs", read(PROGRAM))
+    copied(folder, PROGRAM, [slip] if slip else [])
     program = os.path.join(folder, "plan")
-    status, _, err = answer(["nice", "rustc", "--edition", "2021", "-O", "-o", program, f"{folder}/plan.rs"], "", timeout=SECONDS, text=True)
+    words = ["nice", "rustc", *WORDS, '--cfg=feature="plan"', "-o", program, os.path.join(folder, PROGRAM)]
+    status, _, err = answer(words, "", timeout=SECONDS, text=True)
     must(status == 0, f"rustc refuses the program:\n{err[:3000]}")
     return program
 

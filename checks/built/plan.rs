@@ -3,19 +3,15 @@
 //! An event is a line: a letter and numbers. `o` opens a scheduler, `s` submits, `c` cancels, `d` ends a job, `f` asks of
 //! one, `b` and `v` take a block out of service and put it back, `n` makes a decision, after a look if its last number is
 //! 1, and `k` asks for the counts.
-#![allow(dead_code, unused_imports, unused_mut, unused_variables, private_interfaces, unused_must_use)]
+#![allow(dead_code)]
 
 extern crate alloc;
 
-macro_rules! prove {
-    ($it:expr) => {
-        assert!($it)
-    };
-}
-
+#[path = "../../rust/src/source/mod.rs"]
+#[rustfmt::skip]
 mod source;
 
-use source::fixed_vec::Store;
+use source::kit::fixed_vec::Store;
 use source::kit::alloc::Global;
 use source::sched_core::{Forecast, Place, Region, SchedJob, Scheduler, NEVER};
 use std::collections::HashMap;

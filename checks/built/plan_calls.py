@@ -1,4 +1,5 @@
-"""Plays the planner beside a plain model of its rules: `checks/run plan_calls [SEED PLANNERS CALLS]`.
+"""Plays the planner beside a plain model of its rules: `checks/run plan_calls FOLDER [SEED PLANNERS CALLS]`, where FOLDER
+has the archive.
 
 plan_calls.c makes random calls and prints each one with its answer. Here plan_model.py answers the same calls, and each
 line must agree in all its numbers. It is run as C and as C++, with the compiler's checks of addresses, also of memory
@@ -10,15 +11,14 @@ import os
 import shutil
 import subprocess
 import tempfile
+from typing import NamedTuple
 
 from checks.built.plan_model import DONE, NO_JOB, Model
 from checks.lib.repository import path
 from checks.lib.rows import Row, Skipped, answer, must, run_rows
-from checks.lib.toolchain import kit
 
-LIBRARY = "cubejobs_plan"
-HEADERS = [f"-I{path('checks', 'built')}", f"-I{path('include')}"]
-STRICT = ["-O1", "-g", "-Wall", "-Wextra", "-Werror", "-pedantic", *HEADERS]
+LIBRARY = "libcubejobs_plan.a"
+STRICT = ["-O1", "-g", "-Wall", "-Wextra", "-Werror", "-pedantic", f"-I{path('include')}"]
 CHECKS = ["-fsanitize=address,undefined", "-fno-sanitize-recover=all"]
 C, CXX = ["gcc", "-std=c11", "-xc"], ["g++", "-std=c++11", "-xc++"]
 OUT_OF_RANGE, NOT_OPEN, ALREADY_OPEN, BAD_VERSION = 45, 12, 14, 15
@@ -182,17 +182,21 @@ FAULTS = (IgnoresClasses, ForgetsTheReservation, WaitsForNoPromise, IsNeverPatie
 # ---- runs
 
 
-def built(room, compiler, source="checks/built/plan_calls.c", flags=()):
-    """Compiles a program over the library. Returns its path."""
-    if not shutil.which(compiler[0]):
-        raise Skipped(f"no {compiler[0]} here")
-    library, out = path("crates", LIBRARY, "out", f"lib{LIBRARY}.a"), f"{room}/program"
-    if not os.path.exists(library):
-        subprocess.run([path("checks", "run"), "static", LIBRARY], check=True)
-    words = [*compiler, *STRICT, path(source), "-xnone", *flags, library]
-    status, _, said = answer([*words, f"{kit().KIT}/c/liblibc_c.a", "-o", out], timeout=300)
-    must(status == 0, said.decode(errors="replace"))
-    return out
+class Place(NamedTuple):
+    """A folder with the archive, and one for programs."""
+
+    folder: str
+    room: str
+
+    def built(self, compiler, source="checks/built/plan_calls.c", flags=()):
+        """Compiles a program over the library. Returns its path."""
+        if not shutil.which(compiler[0]):
+            raise Skipped(f"no {compiler[0]} here")
+        out = f"{self.room}/program"
+        words = [*compiler, *STRICT, path(source), "-xnone", *flags, f"{self.folder}/{LIBRARY}", "-o", out]
+        status, _, said = answer(words, timeout=300)
+        must(status == 0, said.decode(errors="replace"))
+        return out
 
 
 def calls(program, words):
@@ -203,26 +207,26 @@ def calls(program, words):
     must(ran.returncode == 0, f"status {ran.returncode}")
 
 
-def must_agree(room, compiler, words):
+def must_agree(place, compiler, words):
     """Sees that the library and the model answer each call alike."""
     replay, count = Replay(), 0
-    for line in calls(built(room, compiler), words):
+    for line in calls(place.built(compiler), words):
         wrong = replay.line(line)
         must(not wrong, f"call {count}: {wrong}")
         count += 1
     return f"{count:,} calls"
 
 
-def must_refuse(room):
+def must_refuse(place):
     """Sees that each request for memory may be refused, and that a planner has as many bytes as it says."""
-    program = built(room, C, "checks/built/plan_memory.c", ["-Wl,--wrap=malloc,--wrap=free"])
+    program = place.built(C, "checks/built/plan_memory.c", ["-Wl,--wrap=malloc,--wrap=free"])
     must(not list(calls(program, [])), "it writes")
 
 
-def must_differ(room, rules):
+def must_differ(place, rules):
     """Sees that a model with a fault answers a call otherwise."""
     replay = Replay(rules)
-    lines = list(calls(built(room, C), ["5", "300", "100"]))
+    lines = list(calls(place.built(C), ["5", "300", "100"]))
     must(any(differs(replay, line) for line in lines), "no call differs")
 
 
@@ -234,14 +238,15 @@ def differs(replay, line):
         return True
 
 
-def rows(room, words):
-    yield Row("random calls", must_agree, (room, [*C, *CHECKS], words or ["1", "400", "120"]))
-    yield Row("random calls by C++", must_agree, (room, [*CXX, *CHECKS], ["2", "100", "120"]))
-    yield Row("requests for memory", must_refuse, (room,))
+def rows(place, words):
+    yield Row("random calls", must_agree, (place, [*C, *CHECKS], words or ["1", "400", "120"]))
+    yield Row("random calls by C++", must_agree, (place, [*CXX, *CHECKS], ["2", "100", "120"]))
+    yield Row("requests for memory", must_refuse, (place,))
     for rules in FAULTS:
-        yield Row(f"a model that {rules.__name__}", must_differ, (room, rules))
+        yield Row(f"a model that {rules.__name__}", must_differ, (place, rules))
 
 
 def main(words):
+    must(words and os.path.exists(f"{words[0]}/{LIBRARY}"), __doc__)
     with tempfile.TemporaryDirectory() as room:
-        return run_rows("plan_calls", rows(room, words))
+        return run_rows("plan_calls", rows(Place(words[0], room), words[1:]))

@@ -3,6 +3,8 @@
 It is slow and has nothing in common with the library. `checks/run plan` compares both on random events. The names, the
 order of refusals and the numbers of codes are those of cubejobs_plan.h.
 """
+from __future__ import annotations
+
 from dataclasses import dataclass, field
 
 NEVER = 2**64 - 1

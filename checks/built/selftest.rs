@@ -1,13 +1,15 @@
-//! A self-test of the Rust package: one number that depends on the answer of each of 250,000 calls. It
+//! A self-test of the Rust package: one number that depends on the answer of each of 300,000 calls. It
 //! must be the same on each processor, in each form of the package.
 
 use cubejobs::lanes::{Lanes, Sizes};
+use cubejobs::plan::{Forecast, Options, Planner, Request, Ticket};
 use cubejobs::regions::{Block, Machine};
 use cubejobs::rounds::{Collective, Shape};
 use cubejobs::Region;
 
 const BLOCK_STEPS: u64 = 200_000;
 const LANE_STEPS: u64 = 50_000;
+const PLAN_STEPS: u64 = 50_000;
 
 /// The hash of Fowler, Noll and Vo, and the random numbers of Marsaglia.
 struct Walk {
@@ -110,12 +112,45 @@ fn rounds(walk: &mut Walk) {
     }
 }
 
+/// Submits jobs to planners of each dimension from 0 to 9, ends them, and asks of them.
+fn plans(walk: &mut Walk) {
+    for dim in 0..10 {
+        let mut planner = Planner::<u64>::new(Options::new(dim, 100).patience(2)).unwrap();
+        let (mut tickets, mut now): (Vec<Ticket>, u64) = (Vec::new(), 0);
+        for step in 0..PLAN_STEPS / 10 {
+            now += walk.below(5);
+            if walk.below(3) > 0 {
+                let (processors, estimate) = (walk.below(1 << dim) + walk.below(2), walk.below(40));
+                let request = Request::new(processors as u32).estimate(estimate).class(walk.below(9) as u8);
+                match planner.submit(request, step) {
+                    Ok(ticket) => tickets.push(ticket),
+                    Err(refused) => walk.mix(1000 + refused.reason as u64),
+                }
+            } else if !tickets.is_empty() {
+                let ticket = tickets[walk.below(tickets.len() as u64) as usize];
+                let ended = if walk.below(3) > 0 { planner.finish(ticket) } else { planner.cancel(ticket) };
+                walk.mix(ended.unwrap_or_else(|refused| 2000 + refused as u64));
+            }
+            while let Some(start) = planner.next(now).unwrap() {
+                walk.mix_all(&[start.base, start.dim.into(), start.end.unwrap_or(0), planner.jobs().count() as u64]);
+            }
+            match tickets.last().and_then(|it| planner.forecast(*it)) {
+                Some(Forecast::Reserved { region, promise }) => walk.mix_all(&[region.base, promise.unwrap_or(1)]),
+                Some(Forecast::Waits { before }) => walk.mix(before),
+                found => walk.mix(u64::from(found.is_some())),
+            }
+        }
+        walk.mix(planner.counts().largest.into());
+    }
+}
+
 #[no_mangle]
 pub extern "C" fn selftest() -> u64 {
     let mut walk = Walk { hash: 0xcbf2_9ce4_8422_2325, state: 88_172_645_463_325_252 };
     blocks(&mut walk);
     lanes(&mut walk);
     rounds(&mut walk);
+    plans(&mut walk);
     walk.hash
 }
 

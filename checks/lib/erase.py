@@ -11,6 +11,7 @@ named here:
 - `let alloc = Global;` in a function for C, to which C passes no allocator,
 - `ManuallyDrop::new(x)` for `unsafe { ManuallyDrop::new_unchecked(x) }`,
 - two nested `if` for an `if let` with `&&`, which older compilers do not know,
+- the feature of a module of GATED,
 - the texts of MENDED, each for one text of a source, which must still be there, and
 - the functions of `rust/c`, each a call of the erased function for C of its name.
 
@@ -27,7 +28,8 @@ from checks.lib.repository import files_below, read
 CRATES = (
     "release_version", "cube_shape", "fit_tree", "cubejobs_fit", "collectives", "rank_steps", "cubejobs_rounds", "bitmap_tree",
     "bitmap_occupancy", "cubejobs_regions", "ghost_log", "wake_pool", "wake_calls", "job_lanes", "kept_places", "region_shop",
-    "shop_owner", "cubejobs_dispatch")
+    "shop_owner", "cubejobs_dispatch", "sched_law", "block_trees", "wait_queue", "sched_blocks", "sched_jobs", "sched_core",
+    "cubejobs_plan")
 # The crates of the tree of status words, and the collectives as a whole. Only the check `steps` erases them, without the
 # pure machine, the text and the flags of a word.
 TREE = ("status_word", "cube_core", "tree_steps", "cube_tree", "collectives")
@@ -38,8 +40,8 @@ LEFT_OUT = (
 )
 NO_TREE = ("status_word/use_bits", "cube_core/act", "cube_core/effect", "cube_core/world", "collectives/padding")
 SOURCE, KIT = "crate::source", "crate::source::kit"
-# What the shim has of the toolchain's crates and of its `std`. Other paths of `std` are those of `core`, if listed.
-KIT_CRATES = ("atomic_table", "counted_slot")
+# What the shim has of the toolchain's crates, of `fixed_vec`, which has raw pointers, and of its `std`. Other paths of `std` are those of `core`, if listed.
+KIT_CRATES = ("atomic_table", "counted_slot", "fixed_vec")
 KIT_STD = ("alloc", "collections", "snapshot", "sync::Arc")
 CORE = ("cmp", "fmt", "marker", "mem", "ops", "sync::atomic")
 PRELUDE = ("Box", "Vec", "vec")
@@ -50,20 +52,24 @@ KEPT, DROPPED = ("cold", "derive", "doc", "inline", "must_use", "repr"), ("error
 # What stays in no list of `derive`: Rust can drop each value, and an error has no text here.
 NOT_DERIVED = ("Drop", "Error")
 # Modules that no other erased one uses.
-UNUSED = (*(f"collectives/{it}" for it in ("collective", "monoid", "operations", "padding", "rounds")), "fit_tree/fit")
+UNUSED = (*(f"collectives/{it}" for it in ("collective", "monoid", "operations", "padding", "rounds")), "sched_law/law")
+# Modules of a crate that only this feature of the package needs.
+GATED = {"fit_tree/fit": "plan"}
 # Functions of the toolchain that only take a value apart. `abandon` and the like are found in the sources.
 ENDS = {"drop", "destroy_empty", "into_inner"}
-# Files with raw pointers. Each has the type below instead, of the shim.
-OPAQUE = ("cubejobs_dispatch/opaque_ptr", "cubejobs_regions/opaque_ptr")
+# Files with raw pointers, and the module and the type of what each points to. Each has the type below instead, of the shim.
+OPAQUE = {
+    "cubejobs_dispatch/opaque_ptr": ("state", "State"), "cubejobs_regions/opaque_ptr": ("state", "State"),
+    "cubejobs_plan/opaque_ptr": ("planner", "Planner")}
 OPAQUE_TEXT = f"""//! The pointer of a handle to its content on the heap, or to nothing.
 
-use {SOURCE}::CRATE::state::State;
+use {SOURCE}::CRATE::MODULE::CONTENT;
 use {KIT}::opaque::Opaque;
 
-pub(crate) type OpaquePtr = Opaque<State>;
+pub(crate) type OpaquePtr = Opaque<CONTENT>;
 """
 # For a text of a source, another one. A `Drop` in Rust gets its value by reference, and takes the lane out of its
-# place. A handle that is shut is a constant of the Rust package.
+# place. A handle that is shut is a constant of the Rust package. What is proved of constants is tested here.
 MENDED = (
     ("bitmap_tree/steps", "pub fn blank() -> HiddenSeat", "pub const fn blank() -> HiddenSeat"),
     ("cubejobs_dispatch/share", "fn let_go(self) {\n        let Share {\n            common,\n            number,\n"
@@ -73,10 +79,12 @@ MENDED = (
      "            drop(leave(&self.common.lane_places[self.number as usize], kept));"),
     ("cubejobs_dispatch/share", "impl Drop for Share {\n    fn drop(self) {",
      "impl Drop for Share {\n    fn drop(&mut self) {"),
+    ("sched_jobs/slots", "const _: () = prove!(", "const _: () = assert!("),
 )
 # The crates that export functions to C, and the modules of the library for C that do so here.
 LIBRARIES = {
-    "cubejobs_fit": "fit", "cubejobs_rounds": "rounds", "cubejobs_regions": "regions", "cubejobs_dispatch": "dispatch"}
+    "cubejobs_fit": "fit", "cubejobs_rounds": "rounds", "cubejobs_regions": "regions", "cubejobs_dispatch": "dispatch",
+    "cubejobs_plan": "plan"}
 EXPORTS = """// Made by checks/lib/erase.py from the functions that crates/CRATE exports. Change those.
 //! The functions of C of `CRATE`, over the erased sources.
 
@@ -234,8 +242,8 @@ def exported(crate, homes, name, parameters, head):
 class Eraser:
     """What is known of a crate while its files are erased."""
 
-    def __init__(self, crate, droppable, unused=UNUSED, apart=()):
-        self.crate, self.droppable, self.unused, self.apart = crate, droppable, unused, apart
+    def __init__(self, crate, droppable, unused=UNUSED):
+        self.crate, self.droppable, self.unused = crate, droppable, unused
         self.file, self.is_for_c, self.derived, self.drops, self.exports = "", False, [], [], []
         self.homes = {}
 
@@ -438,6 +446,7 @@ class Eraser:
         if f"{self.crate}/{items[name]}" in self.unused:
             strip_head(out)
             return name + 2
+        self.gate(items[name], out)
         out += [items[at]] if last(out) == "pub" else [token("pub(crate) "), items[at]]
         return at + 1
 
@@ -448,6 +457,7 @@ class Eraser:
         if first == "thiserror" or f"{self.crate}/{first}" in self.unused and self.file.endswith("/lib"):
             strip_head(out)
             return end + 1
+        self.gate(first, out)
         if not re.search(r"\bModel\b", shown(items[at:end])):
             return None
         text = re.sub(r"\bModel\b(?:, )?", "", shown(items[at:end]))
@@ -458,6 +468,12 @@ class Eraser:
         out.append(items[at])
         return at + 1
 
+    def gate(self, module, out):
+        """Writes the feature of a module before its declaration, or before an import from it."""
+        feature = GATED.get(f"{self.crate}/{module}")
+        if feature and self.file.endswith("/lib"):
+            out.insert(beginning(out), token(f'#[cfg(feature = "{feature}")]\n', "doc"))
+
     def on_path(self, items, at, out):
         """Gives the first name of a path its name here."""
         name, sign = items[at], after(items, at + 1)
@@ -465,7 +481,7 @@ class Eraser:
             return None
         if name == "crate":
             out.append(token(f"{SOURCE}::{self.crate}"))
-        elif name in CRATES or name in TREE or name in self.apart:
+        elif name in CRATES or name in TREE:
             out.append(token(f"{SOURCE}::{name}"))
         elif name in KIT_CRATES:
             out.append(token(f"{KIT}::{name}"))
@@ -576,16 +592,17 @@ def erased_crate(crate):
     return erased_files(crate, {it: files[it] for it in files if it != "tests" and f"{crate}/{it}" not in UNUSED})
 
 
-def erased_files(crate, files, unused=UNUSED, apart=()):
-    """Returns the erased texts of these sources of a crate by their names, and the eraser that has read them. The crates
-    apart are known, too."""
+def erased_files(crate, files, unused=UNUSED):
+    """Returns the erased texts of these sources of a crate by their names, and the eraser that has read them."""
     droppable = {it for text in files.values() for it in re.findall(r"\bimpl(?:<[^{]*?>)? Drop for (\w+)", text)}
-    eraser, made = Eraser(crate, droppable, unused, apart), {}
+    eraser, made = Eraser(crate, droppable, unused), {}
     for file, text in files.items():
         name = f"{crate}/{file}"
         eraser.file, eraser.homes = name, homes_of(text)
         if name in OPAQUE:
-            made[file] = with_head(name, OPAQUE_TEXT.replace("CRATE", crate))
+            module, content = OPAQUE[name]
+            text = OPAQUE_TEXT.replace("CRATE", crate).replace("MODULE", module).replace("CONTENT", content)
+            made[file] = with_head(name, text)
             continue
         differs = DIFFERING.search(re.sub(r"//[^\n]*", "", text))
         if differs:
@@ -601,12 +618,6 @@ def erased_tree(crate):
     for pattern, instead in LEFT_OUT:
         files = {it: re.sub(pattern, instead, text, flags=re.S) for it, text in files.items()}
     return erased_files(crate, files, ())[0]
-
-
-def erased_apart(crate, crates):
-    """Returns the erased files of a crate by their names. Its paths lead to these crates, which are not in CRATES."""
-    files = {it: text for it, text in sources_below(f"crates/{crate}/src").items() if it != "tests"}
-    return erased_files(crate, files, (), crates)[0]
 
 
 def erased_all():

@@ -37,6 +37,7 @@ QUOTES = {
     "cubejobs_fit": ("../examples/fit.c",),
     "cubejobs_dispatch": ("../examples/lanes.c",),
     "cubejobs_regions": ("../examples/regions.c",),
+    "cubejobs_plan": ("../examples/plan.c",),
     "cubejobs_rounds": ("../examples/rounds.c",),
     "devices": (
         "jobs_csv/src/writing.rt#pub fn write_rows<",
@@ -85,7 +86,6 @@ QUOTES = {
 # A library that nobody calls, and why.
 UNCALLED = {
     "job_events": "the program does not call it yet", "sched_law": "its functions are laws, which proofs cite",
-    "cubejobs_plan": "it is not shipped yet",
     "ghost_history": "it has no code that runs", "ghost_log": "its calls do nothing at run time"}
 OPENING = re.compile(r"\A(//.*\n)+\n?")
 BLOCK = re.compile(r"((?<=```rust\n)|(?<=```antt\n)|(?<=```c\n)).*?(?=```\n)", re.DOTALL)

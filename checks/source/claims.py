@@ -65,7 +65,7 @@ def clauses_in(crate, function):
     """Returns the names of the clauses of the functions of this name in a crate, a trait's too."""
     names = set()
     for file in files_below(f"crates/{crate}/src", ".rt"):
-        for it in re.finditer(rf"\bfn {function}\b.*?(?=\n    }}|\n}}|;\n\n)", read(file), re.S):
+        for it in re.finditer(rf"\bfn {function}\b.*?(?=\n    }}|\n}}|\n{{}}|;\n\n)", read(file), re.S):
             names.update(re.findall(r"^\s*ensures (\w+) \{", it[0], re.M))
     return names
 

@@ -1,6 +1,6 @@
 """Compares the codes of the libraries for C, which share one row of numbers.
 
-A name has one number in all headers, and a number one name. include/cubejobs_codes.h has a text for each number, each a
+A name has one number in all headers, and a number one name, except those of OTHERS. include/cubejobs_codes.h has a text for each number, each a
 different one, and for no other. A crate has the codes of its header that its library returns. The Rust package and the
 page have the numbers of the headers. `checks/run codes` prints what differs.
 """
@@ -26,12 +26,16 @@ LIBRARIES = (
     Library("cubejobs_regions.h", "CUBEJOBS_REGIONS_", "cubejobs_regions_code", "cubejobs_regions",
             ("TIMED_OUT", "STOPPED", "STALE")),
     Library("cubejobs_dispatch.h", "CUBEJOBS_DISPATCH_", "cubejobs_dispatch_code", "cubejobs_dispatch"),
+    Library("cubejobs_plan.h", "CUBEJOBS_PLAN_", "cubejobs_plan_code", "cubejobs_plan"),
     Library("cubejobs_rounds.h", "CUBEJOBS_ROUNDS_", "cubejobs_rounds_code", "cubejobs_rounds"),
 )
 TEXTS = "cubejobs_codes.h"
+# Codes of the planner with a name or a number of the dispatcher: it is full itself, and not a lane; and where the
+# dispatcher says that a queue is empty, the planner says of any call that there is no job.
+OTHERS = {"cubejobs_plan.h": ("FULL", "NO_JOB")}
 # Where the Rust package has numbers of codes, and the header that they are of.
 IN_RUST = {"fit_ffi.rs": "cubejobs_fit.h", "regions_ffi.rs": "cubejobs_regions.h", "dispatch_ffi.rs": "cubejobs_dispatch.h",
-           "rounds_ffi.rs": "cubejobs_rounds.h"}
+           "rounds_ffi.rs": "cubejobs_rounds.h", "plan_ffi.rs": "cubejobs_plan.h"}
 # The outcomes of the page that are codes of cubejobs_fit.h.
 IN_PAGE = {"given": "DONE", "freed": "DONE", "nosubcube": "NO_ROOM"}
 CONSTANT = re.compile(r"^pub const ([A-Z_]+): u32 = (\d+);", re.M)
@@ -52,6 +56,9 @@ def faults():
     names, numbers = {}, {}
     for header, codes in headers.items():
         for name, number in codes.items():
+            if name in OTHERS.get(header, ()):
+                numbers.setdefault(number, name)
+                continue
             if names.setdefault(name, number) != number:
                 yield f"{header}: {name} is {number}, and elsewhere {names[name]}"
             if numbers.setdefault(number, name) != name:

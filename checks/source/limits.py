@@ -37,7 +37,7 @@ OTHERS = (
 )
 # Which file writes a limit, in which words, and which limit it is.
 WRITTEN = (
-    ("checks/built/cubejobs_plan.h", r"#define CUBEJOBS_PLAN_MAX_DIM (\d+)", "MAX_BITMAP_DIM"),
+    ("include/cubejobs_plan.h", r"#define CUBEJOBS_PLAN_MAX_DIM (\d+)", "MAX_BITMAP_DIM"),
     ("include/cubejobs_fit.h", r"#define CUBEJOBS_FIT_MAX_DIM (\d+)", "MAX_BITMAP_DIM"),
     ("include/cubejobs_fit.h", r"free blocks of the dimensions 0 to (\d+)", "MAX_BITMAP_DIM"),
     ("include/cubejobs_regions.h", r"#define CUBEJOBS_REGIONS_MAX_DIM (\d+)", "MAX_BITMAP_DIM"),

@@ -32,7 +32,7 @@ PLACES = (
     ("rust/Cargo.lock", r'(name = "cubejobs"\nversion = ")([^"]*)(")', False),
     ("rust/Cargo.lock", r'(name = "cubejobs-c"\nversion = ")([^"]*)(")', False),
     ("rust/Cargo.lock", r'(name = "cubejobs-pool"\nversion = ")([^"]*)(")', False),
-    ("python/cubejobs/__init__.py", r'(__version__ = ")([^"]*)(")', False),
+    ("python/cubejobs/_library.py", r'(\nVERSION = ")([^"]*)(")', False),
     ("docs/cubejobs.1", r'(\.TH CUBEJOBS 1 "" "cubejobs )([^"]*)(")', False),
 )
 

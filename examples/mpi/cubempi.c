@@ -1,20 +1,22 @@
-// A machine of 2^n MPI ranks that runs a file of jobs, many at once: mpirun -n 9 ./cubempi FILE
+// A machine of 2^n MPI ranks that runs a file of jobs, many at once: mpirun -n 9 ./cubempi JOBS
 //
-// The last rank is the coordinator, and the others are processors. The coordinator takes an aligned
-// block for each job, and sends each processor of it a task. These exchange messages by rounds: the
-// library says to which rank each one sends. The output is that of `cubejobs run`, byte for byte.
+// The last rank is the coordinator, and the others are processors. The coordinator submits the jobs
+// to a planner. It sends each processor of a job that starts a task. These exchange messages by
+// rounds: the library says to which rank each one sends. The output is that of `cubejobs run`, byte
+// for byte, or that of --out FILE. Ctrl-C cancels what waits: then FILE has the jobs that have run.
 // With --split MPI runs the collectives, on communicators that are made once. With --trace LOG each
-// block and each message is a line of LOG. README.md is the guide.
+// decision and each message is a line of LOG. README.md is the guide.
 #define _DEFAULT_SOURCE
 #include <errno.h>
 #include <inttypes.h>
 #include <mpi.h>
+#include <signal.h>
 #include <stdio.h>
 #include <stdlib.h>
 #include <string.h>
 #include <unistd.h>
 
-#include "cubejobs_fit.h"
+#include "cubejobs_plan.h"
 #include "cubejobs_rounds.h"
 
 enum { BROADCAST, REDUCE, ALLREDUCE, SCAN, EXSCAN, KINDS };
@@ -26,10 +28,13 @@ static const int SHAPE[] = {CUBEJOBS_BROADCAST, CUBEJOBS_REDUCE, CUBEJOBS_ALLRED
 
 struct task { int job, kind, op, root, dim, base; uint64_t item; };    // below 0 it is no job
 struct part { uint64_t value; int job, base, received, to[MAX_DIM]; }; // to -1: no message
-static struct job { uint64_t lane, root, *items; int kind, op, dim, count; } *jobs;
+static struct job { uint64_t lane, root, *items, ticket; int kind, op, dim, count, is_over; } *jobs;
 static MPI_Comm level[MAX_DIM + 1]; // the aligned block of each dimension that this processor is in
 static struct part parts[1 << MAX_DIM];
 static int is_split;
+static volatile sig_atomic_t is_stopped;
+
+static void stop(int number) { is_stopped = number; }
 
 static void must_be(int holds, const char *fault) {
     if (!holds) fprintf(stderr, "cubempi: %s\n", fault), MPI_Abort(MPI_COMM_WORLD, 4);
@@ -164,23 +169,44 @@ static void end_job(int number, FILE *log) {
     must_be(is_split || (sent == all && received == all), "a message is missing");
 }
 
-// Runs all jobs, the widest first: then a take is refused only while each processor is held.
+// How long a job runs at most, in microseconds: a round takes some looks for a message.
+static uint64_t estimate(const struct job *job) { return 500 * (job->dim + 1); }
+
+static void submit_jobs(struct cubejobs_plan *plan, int dim, int count) {
+    const struct cubejobs_plan_options options = {.dim = dim, .jobs = count ? count : 1, .patience = 16};
+    must_be(!cubejobs_plan_open(plan, options, NULL), "the planner does not open");
+    for (int i = 0; i < count; i++) {
+        const struct cubejobs_plan_request request = {i, estimate(&jobs[i]), 1u << jobs[i].dim, 0};
+        const struct cubejobs_plan_job it = cubejobs_plan_submit(plan, request);
+        must_be(!it.code, "the planner refuses a job"), jobs[i].ticket = it.ticket;
+    }
+}
+
+// Starts each job that may start now.
+static void start_jobs(struct cubejobs_plan *plan, FILE *log) {
+    const uint64_t now = (uint64_t)(MPI_Wtime() * 1e6);
+    for (struct cubejobs_plan_job it; (it = cubejobs_plan_next(plan, now)).code == CUBEJOBS_PLAN_DONE;) {
+        if (log) fprintf(log, "start,%d,%d,%" PRIu64 "\n", (int)it.payload, (int)it.base, now);
+        start((int)it.payload, (int)it.base);
+    }
+    if (log) fprintf(log, "rest,%" PRIu64 "\n", now);
+}
+
+// Runs all jobs, or after Ctrl-C those that have started.
 static void run_jobs(int dim, int count, FILE *log) {
-    static uint64_t image[12 + (2 << MAX_DIM) / 8]; // a scheduler may keep it in a file, to begin again
-    struct cubejobs_fit fit = {0};
-    must_be(!cubejobs_fit_open(&fit, image, sizeof image, dim), "the allocator does not open");
-    for (int k = dim, next = 0, ended = 0; ended < count; ended++) {
-        for (struct cubejobs_fit_answer block; k >= 0; next < count ? next++ : (k--, next = 0)) {
-            if (next == count || jobs[next].dim != k) continue;
-            if ((block = cubejobs_fit_take(&fit, k)).code != CUBEJOBS_FIT_DONE) break;
-            if (log) fprintf(log, "take,%d,%d,%d\n", next, (int)block.base, k);
-            start(next, block.base);
-        }
+    struct cubejobs_plan plan = {0};
+    submit_jobs(&plan, dim, count);
+    for (start_jobs(&plan, log); cubejobs_plan_counts(&plan).running; start_jobs(&plan, log)) {
         wait_for(MPI_ANY_SOURCE, REPLY);
         MPI_Recv(parts, sizeof *parts << dim, MPI_BYTE, MPI_ANY_SOURCE, REPLY, MPI_COMM_WORLD, MPI_STATUS_IGNORE);
-        must_be(!cubejobs_fit_release(&fit, parts->base, jobs[parts->job].dim), "the block of a job is not held");
-        if (end_job(parts->job, log), log) fprintf(log, "release,%d\n", parts->job);
+        struct job *job = &jobs[parts->job];
+        const struct cubejobs_plan_job it = cubejobs_plan_finish(&plan, job->ticket);
+        must_be(!it.code && (int)it.base == parts->base, "the job does not run there");
+        job->is_over = 1;
+        if (end_job(parts->job, log), log) fprintf(log, "end,%d\n", parts->job);
+        for (int i = 0; is_stopped && i < count; i++) cubejobs_plan_cancel(&plan, jobs[i].ticket);
     }
+    must_be(!cubejobs_plan_close(&plan), "the planner is shut");
 }
 
 static void print_row(const struct job *job, int seq) {
@@ -191,29 +217,32 @@ static void print_row(const struct job *job, int seq) {
     printf(",%u,%" PRIu64 "\n", all.rounds, all.messages);
 }
 
-static int coordinate(int dim, const char *name, const char *log_name) {
+static int coordinate(int dim, const char *name, const char *log_name, const char *out_name) {
     int count = read_jobs(name, dim);
     FILE *log = log_name && count >= 0 ? fopen(log_name, "w") : NULL;
     if (count < 0 || (log_name && !log)) return count < 0 ? 2 : (perror("cubempi: LOG"), 3);
+    if (out_name && !freopen(out_name, "w", stdout)) return perror("cubempi: FILE"), 3;
     run_jobs(dim, count, log), puts("lane,seq,kind,dim,result,rounds,messages");
     for (uint64_t lane = 0; lane < LANES; lane++)
         for (int i = 0, seq = 0; i < count; i++)
-            if (jobs[i].lane == lane) print_row(&jobs[i], seq++);
-    return fflush(stdout) || (log && fclose(log)) ? perror("cubempi: output"), 3 : 0;
+            if (jobs[i].lane == lane && seq++ >= 0 && jobs[i].is_over) print_row(&jobs[i], seq - 1);
+    return fflush(stdout) || (log && fclose(log)) ? perror("cubempi: output"), 3 : is_stopped ? 130 : 0;
 }
 
 int main(int argc, char **argv) {
     int rank, size, dim = 0, at = 1;
+    signal(SIGINT, stop), signal(SIGTERM, stop); // mpirun passes Ctrl-C on as SIGTERM
     MPI_Init(&argc, &argv), MPI_Comm_rank(MPI_COMM_WORLD, &rank), MPI_Comm_size(MPI_COMM_WORLD, &size);
     if (at < argc && !strcmp(argv[at], "--split")) is_split = 1, at++;
     const char *log_name = at + 1 < argc && !strcmp(argv[at], "--trace") ? at += 2, argv[at - 1] : NULL;
+    const char *out_name = at + 1 < argc && !strcmp(argv[at], "--out") ? at += 2, argv[at - 1] : NULL;
     while (1 << dim < size - 1) dim++;
     int is_bad = at != argc - 1 || 1 << dim != size - 1 || dim > MAX_DIM;
-    if (is_bad && rank == 0) fprintf(stderr, "usage: mpirun -n (2^N + 1) cubempi [--split] [--trace LOG] FILE\n");
+    if (is_bad && rank == 0) fputs("usage: mpirun -n (2^N + 1) cubempi [--split] [--trace LOG] [--out FILE] JOBS\n", stderr);
     if (is_bad) return MPI_Finalize(), 2;
     for (int k = 0; k <= dim; k++) // a processor is in one aligned block of each dimension
         MPI_Comm_split(MPI_COMM_WORLD, rank < size - 1 ? rank >> k : MPI_UNDEFINED, rank, &level[k]);
-    int status = rank < size - 1 ? process(rank, size - 1) : coordinate(dim, argv[at], log_name);
+    int status = rank < size - 1 ? process(rank, size - 1) : coordinate(dim, argv[at], log_name, out_name);
     for (int p = 0; rank == size - 1 && p < rank; p++)
         MPI_Send(&(struct task){.job = -1}, sizeof(struct task), MPI_BYTE, p, TASK, MPI_COMM_WORLD);
     return MPI_Finalize(), status;

@@ -47,21 +47,21 @@ looks into `lib` of this package, `release/` of a clone and `lib` of the install
 """
 import abc
 import ctypes
-import operator
-import os
 import threading
 import weakref
 from types import TracebackType
 from typing import (Any, Callable, ContextManager, Dict, List, NamedTuple, NoReturn, Optional, Tuple, Type,
                     TypeVar, Union)
 
+from cubejobs._common import OtherProcess, Process, Region, natural
 from cubejobs._library import DONE, HEAD_BYTES, MAX_DIM, REGIONS_VERSION, Handle, load
+from cubejobs._library import VERSION as __version__
+from cubejobs._planner import Counts, Job, NoJob, Planner, PlannerFull, State, WrongState
 
-__version__ = "0.3.0-dev"
-__all__ = ["Block", "FirstFit", "MAX_DIM", "Machine", "NoRoom", "NotHeld", "Occupancy", "OtherProcess", "Region",
-           "Regions", "StillHeld"]
+__all__ = ["Block", "Counts", "FirstFit", "Job", "MAX_DIM", "Machine", "NoJob", "NoRoom", "NotHeld", "Occupancy",
+           "OtherProcess", "Planner", "PlannerFull", "Region", "Regions", "State", "StillHeld", "WrongState"]
 
-_regions, _fit = load(__version__)
+_regions, _fit = load()
 _Self = TypeVar("_Self", bound="Machine")
 _Fit = TypeVar("_Fit", bound="FirstFit")
 
@@ -78,27 +78,6 @@ class StillHeld(Exception):
     """A refused close: a block of the machine is held."""
 
 
-class OtherProcess(Exception):
-    """A refused call in the child of a fork: the machine belongs to the parent."""
-
-
-class Region(NamedTuple):
-    """A block as two numbers: its first processor and its dimension."""
-
-    base: int
-    dim: int
-
-    @property
-    def processors(self) -> range:
-        """The numbers of its processors."""
-        return range(self.base, self.base + (1 << self.dim))
-
-    @property
-    def region(self) -> "Region":
-        """The region itself. So code that reads a block also reads a region."""
-        return self
-
-
 class Occupancy(NamedTuple):
     """The number of held processors, and the dimension of the largest free block, or None. Then the number of free
     blocks of each dimension, at the dimension."""
@@ -106,19 +85,6 @@ class Occupancy(NamedTuple):
     held: int
     largest: Optional[int]
     free: List[int]
-
-
-class _Process:
-    """This process, by a mark that the child of a fork replaces."""
-
-    mark = object()
-
-    @classmethod
-    def become_another(cls) -> None:
-        cls.mark = object()
-
-
-os.register_at_fork(after_in_child=_Process.become_another)
 
 
 class _Hold:
@@ -132,14 +98,6 @@ class _Hold:
     def __init__(self, region: Region, handle: Optional[Handle] = None) -> None:
         self.region: Optional[Region] = region
         self.handle = handle
-
-
-def _natural(number: int, most: int, what: str) -> int:
-    """Returns a whole number from 0 to the most. Raises ValueError if it is none of these."""
-    whole = operator.index(number)
-    if not 0 <= whole <= most:
-        raise ValueError(f"{what} is 0 to {most}, and not {whole}")
-    return whole
 
 
 def _must_be_done(code: int) -> None:
@@ -231,16 +189,16 @@ class Machine(abc.ABC):
 
     def __init__(self, dim: int) -> None:
         """Opens a machine of 2^dim processors, of which none is held. Raises ValueError or MemoryError."""
-        self.dim = _natural(dim, MAX_DIM, "the dimension of a machine")
+        self.dim = natural(dim, MAX_DIM, "the dimension of a machine")
         # A thread that a signal handler interrupts, or the garbage collector, may come here again.
         self._lock = threading.RLock()
-        self._mark, self._is_open = _Process.mark, True
+        self._mark, self._is_open = Process.mark, True
         # All held blocks, by their first processors.
         self._holds: Dict[int, _Hold] = {}
 
     def take(self, dim: int) -> Block:
         """Takes a free block. Raises NoRoom if there is none, and ValueError if it is larger than the machine."""
-        dim = _natural(dim, self.dim, "the dimension of a block")
+        dim = natural(dim, self.dim, "the dimension of a block")
         with self._turn():
             self._must_be_open()
             hold = self._find(dim)
@@ -335,12 +293,12 @@ class Machine(abc.ABC):
         return f"{name}, held={held})" if self._is_open else f"{name}, closed)"
 
     def _is_here(self) -> bool:
-        return self._mark is _Process.mark
+        return self._mark is Process.mark
 
     def _turn(self) -> ContextManager[Any]:
         """Returns the lock of the machine. Raises OtherProcess in the child of a fork, where a thread that is gone may
         have it."""
-        if self._mark is not _Process.mark:
+        if self._mark is not Process.mark:
             raise OtherProcess("the machine belongs to the process that this one was forked from: open another one")
         return self._lock
 
@@ -350,8 +308,8 @@ class Machine(abc.ABC):
 
     def _region(self, base: int, dim: int) -> Region:
         """Returns a region of the machine. Raises ValueError if it has no such region."""
-        dim = _natural(dim, self.dim, "the dimension of a block")
-        base = _natural(base, (1 << self.dim) - 1, "a processor")
+        dim = natural(dim, self.dim, "the dimension of a block")
+        base = natural(base, (1 << self.dim) - 1, "a processor")
         if base % (1 << dim):
             raise ValueError(f"no block of dimension {dim} begins at the processor {base}")
         return Region(base, dim)
@@ -466,7 +424,7 @@ class Regions(Machine):
 def _drop(handle: Handle, holds: Dict[int, _Hold], mark: object) -> None:
     """Frees a machine that nobody has any more, with the blocks that were forgotten. Does nothing in the child of a
     fork: there the memory is a copy, in which a thread may have stopped inside a call."""
-    if mark is _Process.mark:
+    if mark is Process.mark:
         for hold in holds.values():
             _regions.release(handle, hold.handle)
         _regions.free(handle)
@@ -545,7 +503,7 @@ class FirstFit(Machine):
 
     def free_blocks(self, dim: int) -> int:
         """Returns how many blocks of a dimension are free."""
-        return int(self._call(_fit.free_blocks, _natural(dim, self.dim, "the dimension of a block")))
+        return int(self._call(_fit.free_blocks, natural(dim, self.dim, "the dimension of a block")))
 
     def largest(self) -> Optional[Region]:
         """Returns the first free block of the largest dimension that has one, or None. Takes nothing."""
@@ -553,17 +511,17 @@ class FirstFit(Machine):
 
     def first(self, dim: int) -> Optional[Region]:
         """Returns the block that a take would get, or None. Takes nothing."""
-        return self._found(_fit.first, _natural(dim, self.dim, "the dimension of a block"))
+        return self._found(_fit.first, natural(dim, self.dim, "the dimension of a block"))
 
     def first_apart(self, dim: int, avoid: Union[Block, Region]) -> Optional[Region]:
         """Returns the first free block that does not overlap another one, or None. The other one may be free or held.
         Takes nothing. Raises ValueError if the machine has no such block."""
-        dim = _natural(dim, self.dim, "the dimension of a block")
+        dim = natural(dim, self.dim, "the dimension of a block")
         return self._found(_fit.first_apart, dim, *self._region(*avoid.region))
 
     def block_with(self, processor: int) -> Optional[Region]:
         """Returns the held block that has a processor, or None if it is free."""
-        return self._found(_fit.block_with, _natural(processor, (1 << self.dim) - 1, "a processor"))
+        return self._found(_fit.block_with, natural(processor, (1 << self.dim) - 1, "a processor"))
 
     def __reduce__(self) -> Any:
         return type(self).from_image, (self.dim, self.image())

@@ -4,13 +4,16 @@ import os
 import platform
 from typing import Any, Dict, List, Tuple
 
+VERSION = "0.3.0-dev"
 # The largest dimension of a machine, CUBEJOBS_REGIONS_MAX_DIM.
 MAX_DIM = 20
 # The version of the header of the lock-free library, CUBEJOBS_REGIONS_VERSION.
 REGIONS_VERSION = 3
 # The bytes of an image of first fit before its tree.
 HEAD_BYTES = 96
-DONE = 0
+# The most jobs of a planner, the time that is not known, and the version of the header of the planner.
+MAX_JOBS, NEVER, PLAN_VERSION = 16777216, 2**64 - 1, 1
+DONE, BAD_VERSION = 0, 15
 
 
 class Handle(ctypes.Structure):
@@ -22,6 +25,38 @@ class Handle(ctypes.Structure):
 class _Answer(ctypes.Structure):
     _fields_ = [("code", ctypes.c_uint16), ("dim", ctypes.c_uint16), ("contended", ctypes.c_uint32),
                 ("base", ctypes.c_uint64)]
+
+
+class PlanOptions(ctypes.Structure):
+    """What a planner is opened for."""
+
+    _fields_ = [("dim", ctypes.c_uint32), ("jobs", ctypes.c_uint32), ("patience", ctypes.c_uint32),
+                ("flags", ctypes.c_uint32)]
+
+
+class PlanMemory(ctypes.Structure):
+    """Memory that a caller lends: none here."""
+
+    _fields_ = [("at", ctypes.c_void_p), ("words", ctypes.c_uint64)]
+
+
+class PlanRequest(ctypes.Structure):
+    """A job as it is submitted."""
+
+    _fields_ = [("payload", ctypes.c_uint64), ("estimate", ctypes.c_uint64), ("processors", ctypes.c_uint32),
+                ("job_class", ctypes.c_uint32)]
+
+
+class _PlanJob(ctypes.Structure):
+    _fields_ = [("code", ctypes.c_uint32), ("state", ctypes.c_uint32), ("ticket", ctypes.c_uint64),
+                ("payload", ctypes.c_uint64), ("base", ctypes.c_uint64), ("time", ctypes.c_uint64),
+                ("before", ctypes.c_uint64), ("arrival", ctypes.c_uint64), ("processors", ctypes.c_uint32),
+                ("dim", ctypes.c_uint32), ("job_class", ctypes.c_uint32)]
+
+
+class _PlanCounts(ctypes.Structure):
+    _fields_ = [(name, ctypes.c_uint32)
+                for name in ("code", "waiting", "running", "held", "asked", "occupied", "largest")]
 
 
 class _OccupancyAnswer(ctypes.Structure):
@@ -65,45 +100,78 @@ _FIT_CALLS: _Calls = {
     "free_blocks": (_U64, [*_IMAGE, _U32]),
     "occupancy": (_OccupancyAnswer, _IMAGE),
 }
+_PLAN_CALLS: _Calls = {
+    "open_version": (_U32, [_HANDLE, _U32, PlanOptions, PlanMemory, _U64]),
+    "submit": (_PlanJob, [_HANDLE, PlanRequest]),
+    "cancel": (_PlanJob, [_HANDLE, _U64]),
+    "finish": (_PlanJob, [_HANDLE, _U64]),
+    "occupy": (_U32, [_HANDLE, _U64, _U32]),
+    "vacate": (_U32, [_HANDLE, _U64, _U32]),
+    "next": (_PlanJob, [_HANDLE, _U64]),
+    "forecast": (_PlanJob, [_HANDLE, _U64]),
+    "after": (_PlanJob, [_HANDLE, _U64]),
+    "counts": (_PlanCounts, [_HANDLE]),
+    "close": (_U32, [_HANDLE]),
+}
 
 
-def _number(version: str) -> int:
-    """Returns the number of a version: 10203 of 1.2.3."""
-    first, second, third = (int(part) for part in version.partition("-")[0].split("."))
+def _number() -> int:
+    """Returns the number of the version: 10203 of 1.2.3."""
+    first, second, third = (int(part) for part in VERSION.partition("-")[0].split("."))
     return 10000 * first + 100 * second + third
 
 
-def _places(name: str, version: str) -> List[str]:
+def _places(name: str) -> List[str]:
     """Returns the paths at which a shared object may be, the first one first."""
     named = os.environ.get("CUBEJOBS_LIB")
     if named:
         return [os.path.join(named, name)]
     here = os.path.dirname(os.path.abspath(__file__))
-    versioned = f"{name}.{'.'.join(version.split('.')[:2])}"
+    versioned = f"{name}.{'.'.join(VERSION.split('.')[:2])}"
     folders = [os.path.join(here, "lib"), os.path.join(here, "..", "..", "release", f"linux-{platform.machine()}"),
                os.path.join(here, "..", "..", "..", "..", "lib")]
     found = [os.path.join(folder, file) for folder in folders for file in (versioned, name)]
     return [file for file in found if os.path.exists(file)] + [versioned]
 
 
-def _load(name: str, prefix: str, calls: _Calls, version: str) -> ctypes.CDLL:
-    """Loads a shared object and declares its calls. Raises ImportError if it is not there, or of another version."""
+def _opened(name: str, prefix: str, calls: _Calls) -> ctypes.CDLL:
+    """Loads a shared object and declares its calls. Raises ImportError if it is not there."""
     try:
-        library = ctypes.CDLL(_places(name, version)[0])
+        library = ctypes.CDLL(_places(name)[0])
     except OSError as reason:
         raise ImportError(f"{reason}; set CUBEJOBS_LIB to the folder of {name}") from None
     for call, (result, arguments) in calls.items():
         function = getattr(library, f"{prefix}_{call}")
         function.restype, function.argtypes = result, arguments
         setattr(library, call, function)
-    version_number = getattr(library, f"{name[3:-3]}_version_number")
-    version_number.restype, version_number.argtypes = _U32, []
-    if version_number() != _number(version):
-        raise ImportError(f"{name} is of another version than this module, which is of {version}")
     return library
 
 
-def load(version: str) -> Tuple[ctypes.CDLL, ctypes.CDLL]:
+def _must_fit(name: str, holds: bool) -> None:
+    if not holds:
+        raise ImportError(f"{name} is of another version than this module, which is of {VERSION}")
+
+
+def _load(name: str, prefix: str, calls: _Calls) -> ctypes.CDLL:
+    """Loads a shared object that says its version. Raises ImportError if it is not there, or of another one."""
+    library = _opened(name, prefix, calls)
+    version_number = getattr(library, f"{name[3:-3]}_version_number")
+    version_number.restype, version_number.argtypes = _U32, []
+    _must_fit(name, version_number() == _number())
+    return library
+
+
+def load() -> Tuple[ctypes.CDLL, ctypes.CDLL]:
     """Returns the lock-free library and the exact one, both of this version. Raises ImportError if one is missing."""
-    return (_load("libcubejobs_regions.so", "cubejobs_regions", _REGIONS_CALLS, version),
-            _load("libcubejobs_fit.so", "cubejobs_image", _FIT_CALLS, version))
+    return (_load("libcubejobs_regions.so", "cubejobs_regions", _REGIONS_CALLS),
+            _load("libcubejobs_fit.so", "cubejobs_image", _FIT_CALLS))
+
+
+def load_plan() -> ctypes.CDLL:
+    """Returns the library of the planner. It says of what version of its header it is by what it refuses to open. Raises
+    ImportError if it is missing, or of another one."""
+    name = "libcubejobs_plan.so"
+    library = _opened(name, "cubejobs_plan", _PLAN_CALLS)
+    refused = library.open_version(Handle(), PLAN_VERSION, PlanOptions(), PlanMemory(), 0)
+    _must_fit(name, refused != BAD_VERSION)
+    return library

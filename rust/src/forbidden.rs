@@ -1,5 +1,5 @@
-//! What the types of `regions`, `lanes` and `dispatch` forbid. Each of these programs must not
-//! compile.
+//! What the types of `regions`, `lanes`, `dispatch` and `plan` forbid. Each of these programs must
+//! not compile.
 //!
 //! No block outlives the machine that it borrows:
 //!
@@ -168,4 +168,54 @@
 //! fn submit(lane: cubejobs::lanes::Lane<u64>) -> cubejobs::dispatch::Lane<u64> {
 //!     lane
 //! }
+//! ```
+//!
+//! A planner goes to another thread only if its jobs can:
+//!
+//! ```compile_fail,E0277
+//! use cubejobs::plan::{Options, Planner};
+//! use std::rc::Rc;
+//!
+//! let planner = Planner::<Rc<u8>>::new(Options::new(3, 8)).unwrap();
+//! std::thread::spawn(move || drop(planner));
+//! ```
+//!
+//! Threads share no planner without a lock:
+//!
+//! ```compile_fail,E0277
+//! use cubejobs::plan::{Options, Planner};
+//!
+//! let planner = Planner::<u8>::new(Options::new(3, 8)).unwrap();
+//! std::thread::scope(|scope| {
+//!     scope.spawn(|| planner.counts());
+//! });
+//! ```
+//!
+//! A planner changes nothing while its jobs are gone over:
+//!
+//! ```compile_fail,E0502
+//! fn end_all(planner: &mut cubejobs::plan::Planner<u8>) {
+//!     for (ticket, ..) in planner.jobs() {
+//!         let _ = planner.finish(ticket);
+//!     }
+//! }
+//! ```
+//!
+//! What a job refers to outlives the planner:
+//!
+//! ```compile_fail,E0597
+//! use cubejobs::plan::{Options, Planner, Request};
+//!
+//! let mut planner = Planner::new(Options::new(3, 8)).unwrap();
+//! {
+//!     let text = String::new();
+//!     let _ = planner.submit(Request::new(1), &text);
+//! }
+//! drop(planner);
+//! ```
+//!
+//! A ticket is of a submit alone:
+//!
+//! ```compile_fail,E0423
+//! let ticket = cubejobs::plan::Ticket(core::num::NonZero::new(1).unwrap());
 //! ```

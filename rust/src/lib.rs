@@ -1,5 +1,5 @@
-//! Allocators of aligned blocks, and queues of jobs: safe Rust over the proved libraries of
-//! cubejobs.
+//! Allocators of aligned blocks, queues of jobs, and a planner of jobs in blocks: safe Rust over
+//! the proved libraries of cubejobs.
 //!
 //! A machine of dimension `n` has the processors `0` to `2^n - 1`. A block (a [`Region`]) of
 //! dimension `k` is `2^k` processors in a row, from a multiple of `2^k` on.
@@ -9,6 +9,7 @@
 //! | threads, and any number of blocks | `regions::Machine`, in the default feature `regions` |
 //! | jobs for worker threads, each with a block | `dispatch::Dispatcher`, in `dispatch` |
 //! | jobs for worker threads | `lanes::Lanes`, in the default feature `dispatch` |
+//! | jobs that wait until there is room for them | `plan::Planner`, in the default feature `plan` |
 //! | one thread, or threads under your lock | [`fit::FirstFit`], exact first fit |
 //! | the same, in memory that processes share | [`fit::FirstFit`] over a slice |
 //! | messages of your own between ranks | [`rounds::Collective`] |
@@ -32,7 +33,7 @@
 #![no_std]
 #![warn(missing_docs)]
 
-#[cfg(any(feature = "dispatch", feature = "regions", feature = "std"))]
+#[cfg(any(feature = "dispatch", feature = "plan", feature = "regions", feature = "std"))]
 extern crate alloc;
 #[cfg(feature = "std")]
 extern crate std;
@@ -47,7 +48,7 @@ mod event;
 pub mod fit;
 #[cfg_attr(not(cubejobs_archives), path = "over/fit_ffi.rs")]
 mod fit_ffi;
-#[cfg(all(doctest, feature = "dispatch", feature = "regions"))]
+#[cfg(all(doctest, feature = "dispatch", feature = "plan", feature = "regions"))]
 mod forbidden;
 #[cfg(feature = "regions")]
 mod handles;
@@ -61,6 +62,11 @@ mod parking;
 mod payload;
 #[cfg(any(feature = "dispatch", feature = "regions"))]
 mod place;
+#[cfg(feature = "plan")]
+pub mod plan;
+#[cfg(feature = "plan")]
+#[cfg_attr(not(cubejobs_archives), path = "over/plan_ffi.rs")]
+mod plan_ffi;
 #[cfg(all(doctest, feature = "regions"))]
 #[doc = include_str!("../README.md")]
 mod readme {}
@@ -79,6 +85,8 @@ mod rounds_ffi;
 mod shared;
 #[cfg(feature = "dispatch")]
 mod sharing;
+#[cfg(feature = "plan")]
+mod slab;
 #[cfg(not(cubejobs_archives))]
 #[rustfmt::skip]
 mod source;

@@ -1,6 +1,6 @@
 //! The auto traits of each public type. They are the same over the libraries and in plain Rust.
 
-use cubejobs::{dispatch, fit, lanes, regions, rounds};
+use cubejobs::{dispatch, fit, lanes, plan, regions, rounds};
 use std::cell::Cell;
 
 type Machine = &'static regions::Machine;
@@ -105,10 +105,43 @@ fn of_running_jobs() -> Vec<(&'static str, Traits)> {
     found.to_vec()
 }
 
+fn of_plans() -> Vec<(&'static str, Traits)> {
+    let found = traits![
+        plan::Options,
+        plan::Request,
+        plan::Ticket,
+        plan::Start,
+        plan::Forecast,
+        plan::JobState,
+        plan::Counts,
+        plan::OpenError,
+        plan::SubmitError<u64>,
+        plan::SubmitReason,
+        plan::TimeError,
+        plan::EndError,
+        plan::OccupyError,
+        plan::VacateError,
+    ];
+    found.to_vec()
+}
+
+/// Calls by reference use the library, one at a time.
+fn of_planners() -> Vec<(&'static str, Traits)> {
+    traits![plan::Planner<u64>, plan::Planner<Boxed>,].to_vec()
+}
+
+fn of_their_jobs() -> Vec<(&'static str, Traits)> {
+    traits![plan::Jobs<'static, u64>, plan::Jobs<'static, Boxed>,].to_vec()
+}
+
 #[test]
 fn each_type_has_its_auto_traits() {
     must_lack(&[], &of_machines());
     must_lack(&[], &of_lanes());
+    must_lack(&[], &of_plans());
+    must_lack(&["Sync", "RefUnwindSafe"], &of_planners());
+    must_lack(&["Send", "Sync", "UnwindSafe", "RefUnwindSafe"], &of_their_jobs());
+    must_lack(&["Send", "Sync", "RefUnwindSafe"], &traits![plan::Planner<std::rc::Rc<u8>>,]);
     must_lack(&["UnwindSafe"], &of_running_jobs());
     must_lack(&["UnwindSafe"], &traits![fit::FirstFit<&'static mut [u8]>,]);
     // A payload that a job has is as it is elsewhere.
@@ -135,9 +168,10 @@ fn no_public_type_is_left_out() {
         ("lanes", include_str!("../src/lanes.rs")),
         ("lanes", include_str!("../src/sharing.rs")),
         ("dispatch", include_str!("../src/dispatch.rs")),
+        ("plan", include_str!("../src/plan.rs")),
     ];
-    let known: Vec<&str> =
-        [of_machines(), of_lanes(), of_running_jobs()].concat().iter().map(|it| it.0).collect();
+    let known = [of_machines(), of_lanes(), of_running_jobs(), of_plans(), of_planners(), of_their_jobs()];
+    let known: Vec<&str> = known.concat().iter().map(|it| it.0).collect();
     let mut count = 0;
     for (module, text) in files {
         for line in text.lines() {

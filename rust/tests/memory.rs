@@ -6,6 +6,7 @@
 
 use cubejobs::dispatch::{self, Dispatcher};
 use cubejobs::lanes::{self, DealError, Lanes, Sizes};
+use cubejobs::plan::{self, Options, Planner, Request};
 use cubejobs::regions::{Held, Machine, OpenError, TakeError};
 use std::cell::Cell;
 use std::ffi::c_void;
@@ -295,6 +296,42 @@ fn refused_requests_of_a_dispatcher_are_errors() {
     assert_eq!(LIVE.load(SeqCst), 0);
 }
 
+fn a_planner_leaves_no_memory_behind() {
+    for round in 0..200 {
+        let mut planner = counting(|| Planner::new(Options::new(3, 4)).unwrap());
+        let tickets =
+            counting(|| [0, 1, 2].map(|number| planner.submit(Request::new(8), Box::new(number)).unwrap()));
+        assert!(LIVE.load(SeqCst) >= 3, "the jobs of a planner are not counted");
+        counting(|| drop(planner.cancel(tickets[1]).unwrap()));
+        thread::scope(|scope| {
+            scope.spawn(|| counting(|| drop(planner)));
+        });
+        assert_eq!(LIVE.load(SeqCst), 0, "after round {round}");
+    }
+}
+
+fn refused_requests_of_a_planner_are_errors() {
+    let open = || Planner::new(Options::new(3, 5));
+    let (mut planner, of_open) = refuse_each(plan::OpenError::OutOfMemory, open);
+    assert!(of_open >= 2, "{of_open} requests");
+    // From then on no call makes a request.
+    with_requests(0, || {
+        for number in 0..100 {
+            let ticket = planner.submit(Request::new(1), number).unwrap();
+            if planner.submit(Request::new(8).estimate(7), number).is_err() {
+                assert_eq!(planner.cancel(ticket).unwrap(), number);
+            }
+            let start = planner.next(number).unwrap();
+            if let Some(ticket) = start.map(|it| it.ticket).filter(|_| number % 5 > 0) {
+                planner.finish(ticket).unwrap();
+            }
+            assert!(planner.jobs().count() <= 5);
+        }
+        drop(planner);
+    });
+    assert_eq!(LIVE.load(SeqCst), 0);
+}
+
 // One test, since the count is for all threads.
 #[test]
 fn memory() {
@@ -306,4 +343,6 @@ fn memory() {
     a_dispatcher_leaves_no_memory_behind();
     refused_requests_of_lanes_are_errors();
     refused_requests_of_a_dispatcher_are_errors();
+    a_planner_leaves_no_memory_behind();
+    refused_requests_of_a_planner_are_errors();
 }

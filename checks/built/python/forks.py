@@ -8,7 +8,7 @@ import sys
 import threading
 
 from checks.lib.rows import must
-from cubejobs import FirstFit, NoRoom, OtherProcess, Region, Regions
+from cubejobs import FirstFit, NoRoom, OtherProcess, Planner, Region, Regions
 
 SECONDS = 60
 # The machines that a forked child finds.
@@ -100,6 +100,23 @@ def a_child_finds_all_shut():
         must((block.region, machine.held()) == (Region(0, 1), [(0, 1)]), f"the parent has {machine}, {block}")
         block.release()
         machine.close()
+
+
+def a_child_finds_planners_shut():
+    planner = Planner(2)
+    ticket = planner.submit("kept", processors=1)
+
+    def act():
+        calls = ((planner.next, (0,)), (planner.cancel, (ticket,)), (planner.finish, (ticket,)), (planner.forecast, (ticket,)),
+                 (lambda: planner.submit(processors=1), ()), (planner.occupy, (0, 0)), (planner.vacate, (0, 0)),
+                 (planner.counts, ()), (lambda: next(planner.jobs()), ()), (planner.close, ()), (leave, (planner,)))
+        for call, arguments in calls:
+            raises(OtherProcess, call, *arguments)
+        must(repr(planner) == "Planner(dim=2, of another process)", repr(planner))
+        must(Planner(1).submit(processors=1) > 0, "a planner of its own")
+
+    in_a_child(act)
+    must(planner.next(0).payload == "kept" and planner.finish(ticket) == "kept", "the parent has lost its job")
 
 
 def the_exception_of_a_body_comes_out():

@@ -22,10 +22,12 @@ from checks.lib.rows import Row, Skipped, answer, must, output, run_rows
 
 HERE, MODULE = path("checks", "built", "python"), path("python")
 DOCTEST = "import cubejobs, doctest; failed, tried = doctest.testmod(cubejobs); print(tried); raise SystemExit(failed)"
-EXAMPLES = ("processes.py",)
+EXAMPLES = ("day.py", "processes.py")
 SECONDS = 900
 # How many random programs run of each kind, and how many calls each makes: in the gate, and at length.
 GATE, LONG = (2, 50_000), (10, 300_000)
+# How much slower the plain model of a planner is.
+PLAIN = 5
 
 
 def programs(file):
@@ -67,7 +69,7 @@ def rows(module, work, folder):
     yield Row("the examples of its page", module.examples_of_its_page)
     yield from (Row(f"the example {it}", module.example, (it,)) for it in EXAMPLES)
     yield Row("its types", module.has_good_types)
-    for file in ("behaviour.py", "forks.py"):
+    for file in ("behaviour.py", "forks.py", "plans.py"):
         yield from (Row(it.replace("_", " "), module.runs, (f"{HERE}/{file}", it)) for it in programs(file))
     for method in multiprocessing.get_all_start_methods():
         words = f"{HERE}/forks.py", "workers_have_machines_of_their_own", method
@@ -80,6 +82,9 @@ def random_rows(module, seed, seeds, calls):
         for it in map(str, range(seed, seed + seeds)):
             words = f"{HERE}/random_calls.py", part, it, str(calls)
             yield Row(f"random calls, {part}, with the seed {it}", module.runs, words)
+    for it in map(str, range(seed, seed + seeds)):
+        words = f"{HERE}/plans.py", it, str(calls // PLAIN)
+        yield Row(f"random calls of planners, with the seed {it}", module.runs, words)
 
 
 def main(words):

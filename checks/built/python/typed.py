@@ -2,7 +2,7 @@
 import copy
 from typing import List, Optional, Union
 
-from cubejobs import Block, FirstFit, Machine, NoRoom, Occupancy, Region, Regions
+from cubejobs import Block, Counts, FirstFit, Job, Machine, NoRoom, Occupancy, Planner, Region, Regions, State
 
 
 def fill(machine: Machine, dim: int) -> List[Block]:
@@ -30,6 +30,14 @@ def plan(machine: FirstFit, dim: int, reserved: Union[Block, Region]) -> Optiona
     return kept.block_with(found.base)
 
 
+def starts(planner: Planner, now: int) -> List[range]:
+    """Starts all jobs that may start, and says which processors they have."""
+    found: List[range] = [job.processors for job in planner.starts(now)]
+    waiting: List[Job] = [job for job in planner.jobs() if job.state is not State.RUNS]
+    counts: Counts = planner.counts()
+    return found if len(waiting) == counts.waiting else []
+
+
 def main() -> None:
     machines: List[Machine] = [Regions(4), FirstFit(4)]
     for machine in machines:
@@ -45,6 +53,10 @@ def main() -> None:
     print(plan(exact, 1, upper), exact.is_free(4, 2), exact.free_blocks(0))
     with Regions(1) as regions, regions.take(1) as block:
         print(regions.dim, block.split().region.processors)
+    with Planner(3, jobs=4, patience=0) as planner:
+        ticket: int = planner.submit("a job", processors=3, estimate=5)
+        end: Optional[int] = planner.forecast(ticket).time
+        print(starts(planner, 2), end, planner.finish(ticket))
 
 
 if __name__ == "__main__":

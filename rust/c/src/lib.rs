@@ -1,9 +1,9 @@
 //! The functions of the headers in `include/`, over the erased sources: a library for C and C++ on
 //! any target. It has the same names, structs and rules as the proved archives.
 //!
-//! The modules `fit`, `rounds`, `regions` and `dispatch` are made by `checks/lib/erase.py`. A caller
-//! in C promises what the header says: pointers to whole handles, zeroed before their first use, and
-//! one call at a time with each.
+//! The modules `fit`, `rounds`, `regions`, `dispatch` and `plan` are made by `checks/lib/erase.py`. A
+//! caller in C promises what the header says: pointers to whole handles, zeroed before their first use,
+//! and one call at a time with each.
 
 extern crate alloc;
 
@@ -17,6 +17,9 @@ mod fit;
 #[path = "../../src/place.rs"]
 #[allow(dead_code, unexpected_cfgs)]
 mod place;
+#[cfg(feature = "plan")]
+#[rustfmt::skip]
+mod plan;
 #[cfg(feature = "regions")]
 #[rustfmt::skip]
 mod regions;
@@ -36,6 +39,8 @@ mod source;
 const _: () = assert!(size_of::<source::fit_tree::Head>() == size_of::<[u32; 24]>());
 #[cfg(feature = "dispatch")]
 const _: () = assert!(size_of::<source::cubejobs_dispatch::Handle>() == size_of::<(u64, *const u8)>());
+#[cfg(feature = "plan")]
+const _: () = assert!(size_of::<source::cubejobs_plan::Handle>() == size_of::<(u64, *const u8)>());
 #[cfg(feature = "regions")]
 const _: () = assert!(size_of::<source::cubejobs_regions::Handle>() == size_of::<(u64, *const u8)>());
 #[cfg(feature = "regions")]

@@ -22,7 +22,7 @@ pub mod release_version;
 
 #[cfg(any(feature = "dispatch", feature = "regions"))]
 pub mod bitmap_tree;
-#[cfg(any(feature = "dispatch", feature = "regions"))]
+#[cfg(any(feature = "dispatch", feature = "plan", feature = "regions"))]
 pub mod kit;
 
 #[cfg(feature = "regions")]
@@ -46,3 +46,18 @@ pub mod shop_owner;
 pub mod wake_calls;
 #[cfg(feature = "dispatch")]
 pub mod wake_pool;
+
+#[cfg(feature = "plan")]
+pub mod block_trees;
+#[cfg(feature = "plan")]
+pub mod cubejobs_plan;
+#[cfg(feature = "plan")]
+pub mod sched_blocks;
+#[cfg(feature = "plan")]
+pub mod sched_core;
+#[cfg(feature = "plan")]
+pub mod sched_jobs;
+#[cfg(feature = "plan")]
+pub mod sched_law;
+#[cfg(feature = "plan")]
+pub mod wait_queue;

@@ -9,7 +9,7 @@ pub use alloc::collections::LinkedList;
 /// also show that a list has no items where it is freed as an empty one.
 macro_rules! list {
     ($list:ident, $inner:ty, $push:ident, $push_reserved:ident) => {
-        pub struct $list<T>($inner);
+        #[derive(Debug)] pub struct $list<T>($inner);
 
         impl<T> $list<T> {
             pub fn with_capacity(_: Global, count: usize) -> Result<Self, AllocError> {
@@ -95,6 +95,7 @@ impl<T> VecDeque<T> {
 }
 
 /// Makes a vector: `vec![in alloc; item; count]`.
+#[allow(unused_macros)] // not each form of the package needs it
 macro_rules! vec_of {
     (in $alloc:expr; $item:expr; $count:expr) => {
         crate::source::kit::collections::Vec::filled($alloc, $item, $count)

@@ -8,10 +8,13 @@ pub mod atomic_table;
 pub mod collections;
 #[cfg(feature = "dispatch")]
 pub mod counted_slot;
+#[cfg(feature = "plan")]
+pub mod fixed_vec;
 pub mod heap;
 pub mod opaque;
 #[cfg(feature = "dispatch")]
 pub mod snapshot;
+#[cfg(any(feature = "dispatch", feature = "regions"))]
 pub mod sync;
 
 /// The names that are known everywhere in the proved sources.

@@ -1,7 +1,6 @@
 //! The content of a handle, or nothing. It is one pointer, which C may see.
 
-use super::alloc::Global;
-use super::heap::Box;
+use super::{alloc::Global, heap::Box};
 
 /// The content of a handle, or nothing.
 #[repr(transparent)]
@@ -14,6 +13,12 @@ impl<T> Opaque<T> {
 
     pub fn of(content: Box<T>) -> Self {
         Opaque(Some(content))
+    }
+
+    /// Makes a pointer to a content on the heap: words of the caller stay unused.
+    #[cfg(feature = "plan")]
+    pub fn in_words(_: super::fixed_vec::Chunk, content: T, alloc: Global) -> Self {
+        Opaque(Box::new(alloc, content).ok())
     }
 
     /// Lends the content. The proofs show that there is one.

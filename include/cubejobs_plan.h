@@ -69,6 +69,9 @@ enum cubejobs_plan_code {
     CUBEJOBS_PLAN_TIME_BACK = 48      /* The time is before that of the last call. */
 };
 
+/* The structs are those of the library only if an enum has 32 bits. */
+typedef char cubejobs_plan_code_has_32_bits[sizeof(enum cubejobs_plan_code) == 4 ? 1 : -1];
+
 /* Where a job is. */
 enum cubejobs_plan_state {
     CUBEJOBS_PLAN_WAITS = 1,    /* It waits, and no block is reserved for it. */
@@ -117,7 +120,7 @@ struct cubejobs_plan_request {
  *   - before: how many waiting jobs come before it. It is 0 for a job that runs or is reserved;
  *   - arrival: how many jobs were submitted before it. */
 struct cubejobs_plan_job {
-    uint32_t code;
+    enum cubejobs_plan_code code;
     uint32_t state;
     uint64_t ticket;
     uint64_t payload;
@@ -130,14 +133,15 @@ struct cubejobs_plan_job {
     uint32_t job_class;
 };
 
-/* What a planner has. All is 0 unless the code is CUBEJOBS_PLAN_DONE.
+/* What a planner has. All is 0 unless the code is CUBEJOBS_PLAN_DONE. C++ needs the word `struct`
+ * before its name, which is that of a function too.
  *   - waiting, running: how many jobs wait, also with a reservation, and how many run;
  *   - held: how many processors no other job can have since a job runs;
  *   - asked: how many processors the running jobs asked for;
  *   - occupied: how many processors are out of service;
  *   - largest: the most processors that one job could get now, if no other waited. */
 struct cubejobs_plan_counts {
-    uint32_t code;
+    enum cubejobs_plan_code code;
     uint32_t waiting;
     uint32_t running;
     uint32_t held;
@@ -160,9 +164,10 @@ struct cubejobs_plan_memory {
 
 /* Does what cubejobs_plan_open does, which passes the version of this header. `address` is that of
  * `memory`, or 0. OUT_OF_MEMORY also means that there are too few words. */
-CUBEJOBS_NODISCARD uint32_t cubejobs_plan_open_version(struct cubejobs_plan *plan, uint32_t version,
-                                                       struct cubejobs_plan_options options,
-                                                       struct cubejobs_plan_memory memory, uintptr_t address);
+CUBEJOBS_NODISCARD enum cubejobs_plan_code cubejobs_plan_open_version(struct cubejobs_plan *plan, uint32_t version,
+                                                                      struct cubejobs_plan_options options,
+                                                                      struct cubejobs_plan_memory memory,
+                                                                      uintptr_t address);
 
 /* Opens a planner without jobs, at time 0. It takes all its memory now.
  *
@@ -172,11 +177,14 @@ CUBEJOBS_NODISCARD uint32_t cubejobs_plan_open_version(struct cubejobs_plan *pla
  *
  * Codes: BAD_VERSION, ALREADY_OPEN, OUT_OF_RANGE (an option, or `memory` is no multiple of 8),
  * OUT_OF_MEMORY (only if `memory` is null), DONE. */
-CUBEJOBS_NODISCARD CUBEJOBS_INLINE uint32_t cubejobs_plan_open(struct cubejobs_plan *plan,
-                                                               struct cubejobs_plan_options options, void *memory) {
-    struct cubejobs_plan_memory lent = {memory, 0};
-    if (memory && (uintptr_t)memory % 8 == 0) lent.words = cubejobs_plan_bytes(options) / 8;
-    return cubejobs_plan_open_version(plan, CUBEJOBS_PLAN_VERSION, options, lent, (uintptr_t)memory);
+CUBEJOBS_NODISCARD CUBEJOBS_INLINE enum cubejobs_plan_code cubejobs_plan_open(struct cubejobs_plan *plan,
+                                                                              struct cubejobs_plan_options options,
+                                                                              void *memory) {
+    struct cubejobs_plan_memory lent = {0, 0};
+    const uintptr_t address = CUBEJOBS_CAST(uintptr_t, memory);
+    lent.at = memory;
+    if (memory && address % 8 == 0) lent.words = cubejobs_plan_bytes(options) / 8;
+    return cubejobs_plan_open_version(plan, CUBEJOBS_PLAN_VERSION, options, lent, address);
 }
 
 /* Submits a job, which waits from now on. Codes: NOT_OPEN, OUT_OF_RANGE (its processors or its
@@ -195,11 +203,11 @@ struct cubejobs_plan_job cubejobs_plan_finish(struct cubejobs_plan *plan, uint64
  * jobs in it first. Occupy it before you ask for the next job. A reservation of a part of it ends.
  * Codes: NOT_OPEN, OUT_OF_RANGE (there is no such block), WRONG_STATE (a part is held or
  * occupied), DONE. */
-uint32_t cubejobs_plan_occupy(struct cubejobs_plan *plan, uint64_t base, uint32_t dim);
+enum cubejobs_plan_code cubejobs_plan_occupy(struct cubejobs_plan *plan, uint64_t base, uint32_t dim);
 
 /* Puts exactly a block that was occupied back into service. Codes: NOT_OPEN, OUT_OF_RANGE (there is
  * no such block), WRONG_STATE (no call has occupied this block), DONE. */
-uint32_t cubejobs_plan_vacate(struct cubejobs_plan *plan, uint64_t base, uint32_t dim);
+enum cubejobs_plan_code cubejobs_plan_vacate(struct cubejobs_plan *plan, uint64_t base, uint32_t dim);
 
 /* Starts one job at this time, or says that none may start. Codes: NOT_OPEN, OUT_OF_RANGE (the time
  * is NEVER), TIME_BACK, NO_JOB, DONE. */
@@ -214,12 +222,19 @@ struct cubejobs_plan_job cubejobs_plan_forecast(struct cubejobs_plan *plan, uint
  * DONE. */
 struct cubejobs_plan_job cubejobs_plan_after(struct cubejobs_plan *plan, uint64_t ticket);
 
+#if defined(__cplusplus) && defined(__GNUC__)
+#pragma GCC diagnostic push
+#pragma GCC diagnostic ignored "-Wshadow"
+#endif
 /* Counts what the planner has. Codes: NOT_OPEN, DONE. */
 struct cubejobs_plan_counts cubejobs_plan_counts(struct cubejobs_plan *plan);
+#if defined(__cplusplus) && defined(__GNUC__)
+#pragma GCC diagnostic pop
+#endif
 
 /* Shuts the handle, and frees the planner with all its jobs. Memory of yours is yours again. Codes:
  * NOT_OPEN, DONE. */
-uint32_t cubejobs_plan_close(struct cubejobs_plan *plan);
+enum cubejobs_plan_code cubejobs_plan_close(struct cubejobs_plan *plan);
 
 #ifdef __cplusplus
 }

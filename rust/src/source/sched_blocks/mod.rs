@@ -1,0 +1,14 @@
+// Made from crates/sched_blocks/src/lib.rt by checks/lib/erase.py. Change that file.
+//! The blocks of a scheduler: which are in use, until when, and which one comes next.
+//!
+//! This is the machine's part of a state of `sched_law`. It has the blocks that jobs hold or that
+//! are out of service, and the ends of the jobs that run. Each call says what it does to each state
+//! that the blocks show.
+
+pub(crate) mod blocks;
+pub(crate) mod law;
+pub(crate) mod nodes;
+
+pub use blocks::Blocks;
+pub use crate::source::cube_shape::{MAX_BITMAP_DIM, Region};
+pub use law::other_calls_change_no_block;

@@ -1,0 +1,98 @@
+// Made from crates/sched_jobs/src/line_table.rt by checks/lib/erase.py. Change that file.
+//! The queues of the waiting jobs of a table.
+
+use crate::source::sched_jobs::counts::total;
+use crate::source::sched_jobs::lines::{CLASSES, DIMS, LINES, is_class_empty, join_line, key_at, leave_line, put_key};
+use crate::source::sched_jobs::search::{Wanted, first_of_all};
+use crate::source::cube_shape::MAX_BITMAP_DIM;
+use crate::source::kit::fixed_vec::{FixedVec, Store};
+use crate::source::sched_law::{NEVER, SchedJob};
+use crate::source::kit::alloc::AllocError;
+use crate::source::wait_queue::{MAX_SLOTS, Queue, QueueNode};
+
+/// A queue for each class and dimension, over one node for each slot.
+pub struct LineTable {
+    pub(crate) nodes: FixedVec<QueueNode>,
+    pub(crate) queues: FixedVec<Queue>,
+    /// Whether a class may have waiting jobs.
+    pub(crate) used: FixedVec<bool>,
+}
+
+// Returns the rank of an estimate: the largest number if it is not known.
+fn rank(estimate: u64) -> u64 {
+    if estimate == 0 {
+        return NEVER;
+    }
+    estimate - 1
+}
+
+// Returns the line of a job.
+fn line_number(job: &SchedJob) -> usize {
+    job.class as usize * DIMS + job.dim as usize
+}
+
+// Writes whether a class may have waiting jobs.
+fn set_flag(used: &mut [bool], class: usize, to: bool) {
+    used[class] = to;
+}
+
+impl LineTable {
+    /// Creates empty queues for this many slots, in memory of a store.
+    pub(crate) fn new(store: &mut Store, capacity: usize) -> Result<Self, AllocError> {
+        let nodes = store.filled(QueueNode::UNUSED, capacity, 5 * capacity)?;
+        let queues = store.filled(Queue::new(), LINES, LINES)?;
+        let used = store.filled(false, CLASSES as usize, 1)?;
+        Ok(LineTable {
+            nodes,
+            queues,
+            used,
+        })
+    }
+
+    /// Returns the key of a slot.
+    pub(crate) fn key(&self, slot: u32) -> u64 {
+        key_at(&self.nodes, slot)
+    }
+
+    /// Returns the free slot after a free one, or the number of slots.
+    pub(crate) fn free_after(&self, slot: u32) -> u32 {
+        let link = self.key(slot);
+        if link == 0 {
+            return slot + 1;
+        }
+        (link - 1) as u32
+    }
+
+    /// Returns the slot that is wanted, of the first class, with the least key there.
+    pub(crate) fn first(&self, wanted: &Wanted) -> Option<u32> {
+        first_of_all(&self.nodes, &self.queues, &self.used, wanted)
+    }
+
+    /// Returns the number of slots in the lines from `first` on, up to `end`, which is left out. If
+    /// there is a bound, only keys below it count.
+    pub(crate) fn count(&self, first: usize, end: usize, bound: Option<u64>) -> u64 {
+        total(&self.nodes, &self.queues, first, end, bound)
+    }
+
+    /// Appends a slot to the line of its job, with a key above all keys there.
+    pub(crate) fn join(&mut self, job: &SchedJob, slot: u32, key: u64) {
+        let at = line_number(job);
+        let estimate = rank(job.estimate);
+        join_line(&mut self.nodes, &mut self.queues, at, slot, key, estimate);
+        set_flag(&mut self.used, job.class as usize, true);
+    }
+
+    /// Removes a slot from the line of its job.
+    pub(crate) fn leave(&mut self, job: &SchedJob, slot: u32) {
+        let at = line_number(job);
+        leave_line(&mut self.nodes, &mut self.queues, at, slot);
+        let class = job.class as usize;
+        let is_used = !is_class_empty(&self.queues, class);
+        set_flag(&mut self.used, class, is_used);
+    }
+
+    /// Writes the key of a slot that is in no line.
+    pub(crate) fn set_key(&mut self, slot: u32, key: u64) {
+        put_key(&mut self.nodes, slot, key);
+    }
+}

@@ -1,0 +1,11 @@
+// Made from crates/sched_law/src/lib.rt by checks/lib/erase.py. Change that file.
+//! The policy of a scheduler of aligned blocks, and what follows from it: jobs in order, and
+//! backfill around one reserved block.
+//!
+//! This crate has no state. A contract says what a scheduler may decide in a state, and the laws
+//! say what holds of each decision. Source of backfill with one reservation (EASY): Lifka, "The
+//! ANL/IBM SP Scheduling System", 1995.
+
+pub(crate) mod job;
+
+pub use job::{NEVER, Place, Reservation, SchedJob, SchedRun, SchedWait};
