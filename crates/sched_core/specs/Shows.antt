@@ -8,7 +8,7 @@ use Rattle.sched_law.specs.declared.job.Reservation.{Reservation}
 use Rattle.sched_law.specs.State.{Sched}
 use Rattle.sched_blocks.specs.Shows.{Shows, block_words}
 use Rattle.sched_jobs.specs.declared.jobs.Jobs.{Jobs}
-use Rattle.sched_jobs.specs.Shows.{HasGenerations, HasJob, HasOthers, IsRetired, ShowsJobs, arrival_of, capacity_of, generation_of, job_words, place_of, ticket_of}
+use Rattle.sched_jobs.specs.Shows.{HasGenerations, HasJob, HasOtherJobs, HasOthers, IsRetired, ShowsJobs, arrival_of, capacity_of, generation_of, job_words, place_of, ticket_of}
 use Rattle.sched_jobs.specs.Counts.{HasNoneUsed, IsNextUsed}
 use Rattle.sched_core.specs.declared.assigned.Assigned.{Assigned}
 use Rattle.sched_core.specs.declared.scheduler.Core.{Core}
@@ -60,6 +60,10 @@ KeepsGenerations old new = HasGenerations old.jobs new.jobs
 -- The other slots have the same jobs at the same places.
 abbrev pub KeepsOthers : Core → Core → ℕ → Type 0
 KeepsOthers old new slot = HasOthers old.jobs new.jobs slot
+
+-- The other slots have the same jobs at the same places. What a free slot has as number may change.
+abbrev pub KeepsOtherJobs : Core → Core → ℕ → Type 0
+KeepsOtherJobs old new slot = HasOtherJobs old.jobs new.jobs slot
 
 -- Of the slots from one on, this is the first with a job that is not over.
 abbrev pub IsNextTaken : Core → ℕ → ℕ → Type 0

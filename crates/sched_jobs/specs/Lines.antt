@@ -51,7 +51,7 @@ HasLines lines line = ShowsLines lines.nodes.items lines.queues.items lines.used
 abbrev pub key_in : LineTable → ℕ → ℕ
 key_in lines u = key_of lines.nodes.items u
 
--- The rank of the estimate of a slot's job.
+-- The rank of the estimate of a slot's job, or, if it is free, its back link.
 abbrev pub rank_in : LineTable → ℕ → ℕ
 rank_in lines u = estimate_of lines.nodes.items u
 

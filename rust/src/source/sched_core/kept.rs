@@ -242,6 +242,30 @@ impl Scheduler {
         self.core.submit(job)
     }
 
+    /// Adds a waiting job in a slot. Returns false only if the slot has a job or has had as many as
+    /// it may have; then nothing changes.
+    ///
+    /// # Clauses of the proved source
+    ///
+    /// - requires inside: `slot < slots_of self.old`
+    /// - requires sound: `IsSound (dim_of self.old) job`
+    /// - requires class: `job.class < CLASSES`
+    /// - requires next: `submitted_of self.old < LAST`
+    /// - ensures slots: `slots_of self.new ≡ slots_of self.old`
+    /// - ensures unchanged: `IsFalse result → self.new ≡ self.old`
+    /// - ensures refused: `IsFalse result → IsTaken self.old slot ⊎ IsSpent self.old slot`
+    /// - ensures free: `IsTrue result → IsTaken self.old slot → ⊥`
+    /// - ensures unspent: `IsTrue result → job_generation self.old slot < MAX_GENERATION`
+    /// - ensures generation: `IsTrue result → job_generation self.new slot ≡ job_generation self.old slot + 1`
+    /// - ensures generations: `(u : ℕ) → u ≢ slot → job_generation self.new u ≡ job_generation self.old u`
+    /// - ensures place: `IsTrue result → job_place self.new slot ≡ Waiting (record { job = job; passed = 0 })`
+    /// - ensures arrival: `IsTrue result → job_arrival self.new slot ≡ submitted_of self.old`
+    /// - ensures others: `KeepsOtherJobs self.old self.new slot`
+    /// - ensures shows: `(w : Sched) → ShowsCore w self.old → IsTrue result → ShowsCore (submit job w) self.new`
+    pub fn submit_into(&mut self, slot: u32, job: SchedJob) -> bool {
+        self.core.submit_into(slot, job)
+    }
+
     /// Removes a waiting job. A block that was reserved for it is so no more.
     ///
     /// # Clauses of the proved source

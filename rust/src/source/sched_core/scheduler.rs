@@ -135,6 +135,12 @@ impl Core {
         self.jobs.submit(job)
     }
 
+    /// Adds a waiting job in a slot. Returns false only if the slot has a job or has had as many as
+    /// it may have; then nothing changes.
+    pub(crate) fn submit_into(&mut self, slot: u32, job: SchedJob) -> bool {
+        self.jobs.submit_into(slot, job)
+    }
+
     /// Removes a waiting job. A block that was reserved for it is so no more.
     pub(crate) fn cancel(&mut self, slot: u32) {
         self.jobs.cancel(slot);

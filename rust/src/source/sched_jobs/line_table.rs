@@ -2,7 +2,9 @@
 //! The queues of the waiting jobs of a table.
 
 use crate::source::sched_jobs::counts::total;
-use crate::source::sched_jobs::lines::{CLASSES, DIMS, LINES, is_class_empty, join_line, key_at, leave_line, put_key};
+use crate::source::sched_jobs::lines::{
+    CLASSES, DIMS, LINES, is_class_empty, join_line, key_at, leave_line, put_key, put_rank, rank_at,
+};
 use crate::source::sched_jobs::search::{Wanted, first_of_all};
 use crate::source::cube_shape::MAX_BITMAP_DIM;
 use crate::source::kit::fixed_vec::{FixedVec, Store};
@@ -63,6 +65,15 @@ impl LineTable {
         (link - 1) as u32
     }
 
+    /// Returns the free slot before a free one that is not the first.
+    pub(crate) fn free_before(&self, slot: u32) -> u32 {
+        let back = rank_at(&self.nodes, slot);
+        if back == 0 {
+            return slot.saturating_sub(1);
+        }
+        (back - 1) as u32
+    }
+
     /// Returns the slot that is wanted, of the first class, with the least key there.
     pub(crate) fn first(&self, wanted: &Wanted) -> Option<u32> {
         first_of_all(&self.nodes, &self.queues, &self.used, wanted)
@@ -94,5 +105,19 @@ impl LineTable {
     /// Writes the key of a slot that is in no line.
     pub(crate) fn set_key(&mut self, slot: u32, key: u64) {
         put_key(&mut self.nodes, slot, key);
+    }
+
+    /// Writes the rank of a slot that is in no line.
+    pub(crate) fn set_rank(&mut self, slot: u32, rank: u64) {
+        put_rank(&mut self.nodes, slot, rank);
+    }
+
+    /// Links a free slot to the next one, and this one, if it is one of the table, back to it.
+    pub(crate) fn link(&mut self, slot: u32, next: u32) {
+        self.set_key(slot, next as u64 + 1);
+        if next as usize >= self.nodes.len() {
+            return;
+        }
+        self.set_rank(next, slot as u64 + 1);
     }
 }

@@ -10,7 +10,7 @@ use Rattle.sched_jobs.proofs.jobs.Jobs.new.Goals as goal
 pub returns-clause-shows : goal.returns-clause-shows
 returns-clause-shows c = λ n patience. (
   refl,
-  initial_shows c.in_ok-slots.slots.items c.in_ok-lines.lines.nodes.items c.args.capacity c.requires c.in_ok-slots.ensures.items (search rules) c.in_ok-lines.ensures.keys,
+  initial_shows c.in_ok-slots.slots.items c.in_ok-lines.lines.nodes.items c.args.capacity c.requires c.in_ok-slots.ensures.items (search rules) c.in_ok-lines.ensures.keys c.in_ok-lines.ensures.ranks,
   initial_waiting c.in_ok-slots.slots.items c.in_ok-lines.lines c.args.capacity c.in_ok-slots.ensures.items (search rules) c.in_ok-lines.ensures.slots c.in_ok-lines.ensures.lines,
   initial_running c.in_ok-slots.slots.items c.args.capacity c.in_ok-slots.ensures.items (search rules),
 )

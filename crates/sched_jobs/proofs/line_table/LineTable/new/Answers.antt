@@ -1,11 +1,14 @@
 -- All queues are empty.
 use Rattle.std.proofs.Common.{◌*◌, rules}
 use Rattle.fixed_vec.proofs.Spending.{first, others, both}
-use Rattle.sched_jobs.proofs.AlikeLemmas.{key_unused, shown_empty}
+use Rattle.sched_jobs.proofs.AlikeLemmas.{key_unused, rank_unused, shown_empty}
 use Rattle.sched_jobs.proofs.line_table.LineTable.new.Goals as goal
 
 pub returns-clause-keys : goal.returns-clause-keys
 returns-clause-keys c = λ u. key_unused c.in_ok-nodes.nodes.items c.args.capacity u c.in_ok-nodes.ensures.items
+
+pub returns-clause-ranks : goal.returns-clause-ranks
+returns-clause-ranks c = λ u. rank_unused c.in_ok-nodes.nodes.items c.args.capacity u c.in_ok-nodes.ensures.items
 
 pub returns-clause-lines : goal.returns-clause-lines
 returns-clause-lines c =
