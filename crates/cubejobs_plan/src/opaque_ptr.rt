@@ -68,15 +68,18 @@ impl OpaquePtr {
     // Makes a pointer to the content of a box.
     #[inline(always)]
     pub fn of(content: Box<Planner>) -> OpaquePtr
-        ensures { (result.content ≡ Some content.value) × (result.lent ≡ false) }
+        ensures content { result.content ≡ Some content.value }
+        ensures heap { result.lent ≡ false }
     {
         OpaquePtr::of_parts(Parts::of(content))
     }
 
     // Puts a content into words that the caller lent, and makes a pointer to it.
     pub fn in_words(words: Chunk, content: Planner, alloc: Global) -> OpaquePtr
-        requires { (0 < words.words) × FitsWords planner_row 1 words.words }
-        ensures { (result.content ≡ Some content) × (result.lent ≡ true) }
+        requires some { 0 < words.words }
+        requires fits { FitsWords planner_row 1 words.words }
+        ensures content { result.content ≡ Some content }
+        ensures lent { result.lent ≡ true }
     {
         let Chunk { at, words: _ } = words;
         let place = at as *mut Planner;

@@ -6,7 +6,7 @@ ghost use Rattle.fixed_vec.specs.Words.{FitsWords, chunk_owns};
 use std::marker::Model;
 use std_alloc::vec::{Lodged, lodge};
 
-/// Words of 8 bytes that a caller lends for good. No value lies in them.
+/// Words of 8 bytes that a caller lends. No value lies in them.
 #[repr(C)]
 #[derive(Drop)]
 pub struct Chunk {
@@ -24,7 +24,8 @@ impl Model for Chunk {
 impl Chunk {
     /// Returns how many words there are, and the chunk again.
     pub fn measured(self) -> (usize, Chunk)
-        ensures { (result.0 ≡ self.words) × (result.1 ≡ self) }
+        ensures words { result.0 ≡ self.words }
+        ensures chunk { result.1 ≡ self }
     {
         let Chunk { at, words } = self;
         (words, Chunk { at, words })
@@ -32,8 +33,10 @@ impl Chunk {
 
     /// Cuts the first words off. Returns them, and the words after them.
     pub fn split(self, words: usize) -> (Chunk, Chunk)
-        requires { (0 < words) × (words ≤ self.words) }
-        ensures { (result.0.words ≡ words) × (words + result.1.words ≡ self.words) }
+        requires some { 0 < words }
+        requires inside { words ≤ self.words }
+        ensures first { result.0.words ≡ words }
+        ensures rest { words + result.1.words ≡ self.words }
     {
         let Chunk { at, words: all } = self;
         let rest = unsafe { at.add(8 * words) };
@@ -48,9 +51,12 @@ impl Chunk {
 
     /// Makes an empty vector with room for this many values of the words.
     pub fn lodge<T>(self, count: usize) -> Vec<T, Lodged>
-        requires { (0 < count) × (count < 2 ^ 63) × (0 < self.words)
-            × FitsWords T.row count self.words }
-        ensures { (result.items ≡ []) × (vec_capacity result ≡ count) }
+        requires some { 0 < count }
+        requires small { count < 2 ^ 63 }
+        requires words { 0 < self.words }
+        requires fits { FitsWords T.row count self.words }
+        ensures items { result.items ≡ [] }
+        ensures capacity { vec_capacity result ≡ count }
     {
         let Chunk { at, words: _ } = self;
         unsafe { lodge(at as *mut T, 0, count) }

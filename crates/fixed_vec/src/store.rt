@@ -46,6 +46,7 @@ impl Store {
             lent: Some(words),
         }
     }
+
     /// Makes a vector of equal values. `words` is how many lent words it takes.
     pub fn filled<T: Copy + Drop>(
         &mut self,

@@ -9,7 +9,7 @@ use prog.Memory.{size}
 use prog.Wp.{Env, WpFn}
 use contract.Monad.{fact, fact_i}
 use contract.Running.{tables}
-use types.Kit.{‵, raw, ◌⊛◌, prop, at_ret, ◌$◌, ◌∵◌, !, qed, by, move, keep, drop, use0, use1, use2, split, rewrite, regoal, fsplit, fjoin}
+use types.Kit.{‵, raw, ◌⊛◌, prop, at_ret, ◌$◌, ◌∵◌, !, qed, by, move, keep, drop, use0, use1, use2, split, join, rewrite, regoal, fsplit, join, fjoin}
 use types.Part.{whole, sub, agg}
 use types.Run.{stop, fld, init, of_opd, no_more, and_then, assigns_last, first, blocks, exec, returns, enter}
 use types.ByLocal.{alloc_all, pass_all, free_all, look_at, get, get_in, through, sets, env}
@@ -60,12 +60,10 @@ in_words_spec 𝓤 𝓛 𝓜 𝓡 wired =
     let x = a.1.0 in
     let al = a.1.1.0 in
     let told = sized_told chunk.at n vss.0 are.0.0 in
-    let Asked : Type 0 = (0 < n) × FitsWords planner_row 1 n in
-    qed 𝓛 ((raw (alive 𝓛 En₀.signature z.0.0 z.0.1) ⊛ ‵ (owns (types_at En₀.signature.params z.0.0) a vss)) ∷ raw (fact 𝓤 Asked) ∷ []) ∵ move ! (1 ∷ []) $ heard ! Asked (λ asked. split ! $
+    qed 𝓛 ((raw (alive 𝓛 En₀.signature z.0.0 z.0.1) ⊛ ‵ (owns (types_at En₀.signature.params z.0.0) a vss)) ∷ (raw (fact 𝓤 (0 < n)) ⊛ raw (fact 𝓤 (FitsWords planner_row 1 n))) ∷ []) ∵ move ! (1 ∷ []) $ split ! $ heard ! (0 < n) (λ pos. heard ! (FitsWords planner_row 1 n) (λ fits. split ! $
     move ! (1 ∷ []) $ fsplit ! $ fsplit ! $ drop ! $ move ! (1 ∷ []) $ fsplit ! $ el_tells E ! x vss.1.0 (λ v ev t. move ! (1 ∷ []) $ fsplit ! $ handle_tells E.al ! al vss.1.1.0 (λ hv eh fa. keep ! (3 ∷ 2 ∷ 0 ∷ 4 ∷ []) $
-    let fits = asked.1 in
     let fit : 1 * size (τ E) ≤ n * 8 = fits.size in
-    rewrite ! 0 (λ (y : Bool). ‵ (owns_if y (room_for (words_of n) chunk.at))) (is_live n asked.0) refl $
+    rewrite ! 0 (λ (y : Bool). ‵ (owns_if y (room_for (words_of n) chunk.at))) (is_live n pos) refl $
     in_a_block ! chunk.at (λ p. room_for (words_of n) p) (id⊢ 𝓤 (never 𝓤)) (λ b o at.
     use1 𝓛 (‵ (froom (τ E) b o)) (holds 𝓛 b (τ E) o n (omega (arith, fit)) fits.aligned) $
     regoal ! (λ (us : List Val). prop (WpFn 𝓤 H C Λ fn us Post)) (λ i. (told.0 ∙ ap (λ (p : Ptr). sized_val p n ∷ []) at) i ++ (ev i ++ (eh i ++ []))) refl $
@@ -83,6 +81,5 @@ in_words_spec 𝓤 𝓛 𝓜 𝓡 wired =
     let w = word E hv b o in
     use2 𝓛 (‵ (part_at (R E) full_share x b o)) (el_in E 𝓛 x b o v) $ nothing ! $ move ! (1 ∷ 0 ∷ []) $ box_in E ! d b o x refl refl $
     use1 𝓛 (‵ (To.own_val made (w ∷ []))) (id⊢ 𝓤 _) $
-    let Said : Type 0 = (Some x ≡ Some x) × (true ≡ true) in
-    use0 𝓛 (raw (fact 𝓤 Said)) (fact_i 𝓤 Said (emp 𝓤) (refl, refl)) $ nothing ! $ nothing ! $ fjoin ! $ nothing ! $ fjoin ! $ nothing ! $ fjoin ! $ move ! (3 ∷ 0 ∷ 2 ∷ 1 ∷ []) $
-    by ! (leaves 𝓛 En₀ stays c z w made (tt, (rest (planner_row.exit En₀.kept.1.0) x, (tt, tt))) (tt, (tt, (tt, tt))))))))))
+    use0 𝓛 (raw (fact 𝓤 (true ≡ true))) (fact_i 𝓤 (true ≡ true) (emp 𝓤) refl) $ use0 𝓛 (raw (fact 𝓤 (Some x ≡ Some x))) (fact_i 𝓤 (Some x ≡ Some x) (emp 𝓤) refl) $ join ! $ nothing ! $ nothing ! $ fjoin ! $ nothing ! $ fjoin ! $ nothing ! $ fjoin ! $ move ! (3 ∷ 0 ∷ 2 ∷ 1 ∷ []) $
+    by ! (leaves 𝓛 En₀ stays c z w made (tt, (rest (planner_row.exit En₀.kept.1.0) x, (tt, tt))) (tt, (tt, (tt, tt)))))))))))

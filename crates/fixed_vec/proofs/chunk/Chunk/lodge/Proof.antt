@@ -60,18 +60,15 @@ lodge_spec 𝓤 𝓛 𝓜 𝓡 wired Y L =
     let m = a.1.0 in
     let told = sized_told x.at n vss.0 are.0.0 in
     let small = x.small in
-    let Asked : Type 0 = (0 < m) × (m < 2 ^ 63) × (0 < n) × FitsWords (R E) m n in
-    qed 𝓛 (((‵ (flft κ q) ⊛ ‵ ftrue) ⊛ ‵ (owns (types_at En₀.signature.params z.0.0) a vss)) ∷ (raw (fact 𝓤 (κ ⊑ Y.lives)) ⊛ raw (fact 𝓤 Asked)) ∷ []) ∵ move ! (1 ∷ []) $ split ! $ heard ! (κ ⊑ Y.lives) (λ le. heard ! Asked (λ asked.
+    qed 𝓛 (((‵ (flft κ q) ⊛ ‵ ftrue) ⊛ ‵ (owns (types_at En₀.signature.params z.0.0) a vss)) ∷ (raw (fact 𝓤 (κ ⊑ Y.lives)) ⊛ raw (fact 𝓤 (0 < m)) ⊛ raw (fact 𝓤 (m < 2 ^ 63)) ⊛ raw (fact 𝓤 (0 < n)) ⊛ raw (fact 𝓤 (FitsWords (R E) m n))) ∷ []) ∵ move ! (1 ∷ []) $ split ! $ heard ! (κ ⊑ Y.lives) (λ le. split ! $ heard ! (0 < m) (λ some_values. split ! $ heard ! (m < 2 ^ 63) (λ few. split ! $ heard ! (0 < n) (λ pos. heard ! (FitsWords (R E) m n) (λ fits.
     split ! $ split ! $ move ! (2 ∷ []) $ fsplit ! $ fsplit ! $ drop ! $ keep ! (0 ∷ 2 ∷ []) $
-    let fits = asked.3 in
     let fit : m * sz E ≤ n * 8 = fits.size in
-    let pos : 0 < n = asked.2 in
     rewrite ! 0 (λ (y : Bool). ‵ (owns_if y (room_for (words_of n) x.at))) (is_live n pos) refl $
     in_a_block ! x.at (λ p. room_for (words_of n) p) (id⊢ 𝓤 (never 𝓤)) (λ b o at.
     let τ : Ty = ty_array (elτ E) m in
     let y = at_lodge Y L 𝓛 𝓜.mem 𝓡.returns κ q b o m in
     use1 𝓛 (raw (H.room τ b o)) (holds 𝓛 b τ o n fit fits.aligned) $
-    use2 𝓛 (raw ((Lodges Y L 𝓛 𝓜.mem 𝓡.returns).pre y)) (lodge_goes Y L 𝓛 𝓜.mem 𝓡.returns κ q b o m le asked.0 asked.1 (omega arith)) $
+    use2 𝓛 (raw ((Lodges Y L 𝓛 𝓜.mem 𝓡.returns).pre y)) (lodge_goes Y L 𝓛 𝓜.mem 𝓡.returns κ q b o m le some_values few (omega arith)) $
     regoal ! (λ (us : List Val). prop (WpFn 𝓤 H C Λ fn us Post)) (λ i. (told.0 ∙ ap (λ (p : Ptr). sized_val p n ∷ []) at) i ++ (are.1.0.0 i ++ [])) refl $
     enter ! C Λ fn (sized_val (block_ptr b o) n ∷ vint w64 m ∷ []) Post $
     alloc_all ! (λ l. pass_all ! refl ((tt, (tt, (record { fits = told.1 }, tt))), ((tt, record { fits = are.1.0.1 }), tt)) $ let En : Env 𝓤 𝓛.H = env fn.locals l in
@@ -88,6 +85,5 @@ lodge_spec 𝓤 𝓛 𝓜 𝓡 wired Y L =
     exec ! C Λ En (after 2 fn.body) (at_ret En Post) $
     sets ! (of_opd ! (get ! refl)) refl typed $
     returns ! (look_at ! 0 refl) $ free_all ! refl $
-    let Said : Type 0 = (r.items ≡ []) × (r.cap ≡ m) in
-    use0 𝓛 (raw (fact 𝓤 Said)) (fact_i 𝓤 Said (emp 𝓤) (is.0, is.2)) $ nothing ! $ nothing ! $ fjoin ! $ nothing ! $ fjoin ! $ nothing ! $ move ! (4 ∷ 0 ∷ []) $ join ! $ move ! (0 ∷ 1 ∷ 3 ∷ 2 ∷ []) $
-    by ! (leaves 𝓛 En₀ stays c z v r (tt, (tt, tt)) (tt, (tt, tt))))))))))))
+    use0 𝓛 (raw (fact 𝓤 (r.cap ≡ m))) (fact_i 𝓤 (r.cap ≡ m) (emp 𝓤) is.2) $ use0 𝓛 (raw (fact 𝓤 (r.items ≡ []))) (fact_i 𝓤 (r.items ≡ []) (emp 𝓤) is.0) $ join ! $ nothing ! $ nothing ! $ fjoin ! $ nothing ! $ fjoin ! $ nothing ! $ move ! (4 ∷ 0 ∷ []) $ join ! $ move ! (0 ∷ 1 ∷ 3 ∷ 2 ∷ []) $
+    by ! (leaves 𝓛 En₀ stays c z v r (tt, (tt, tt)) (tt, (tt, tt)))))))))))))))

@@ -7,7 +7,7 @@ use base.Fml.{ftrue}
 use prog.Wp.{Env, WpFn}
 use contract.Monad.{fact, fact_i}
 use contract.Running.{tables}
-use types.Kit.{‵, raw, ◌⊛◌, prop, ◌$◌, ◌∵◌, !, qed, by, move, drop, use0, use2, split, regoal, fsplit, fjoin, feq_i, flt_i}
+use types.Kit.{‵, raw, ◌⊛◌, prop, ◌$◌, ◌∵◌, !, qed, by, move, drop, use0, use2, split, join, regoal, fsplit, fjoin, feq_i, flt_i}
 use types.Part.{whole, sub, agg}
 use types.Run.{stop, fld, of_opd, no_more, and_then, returns, enter}
 use types.ByLocal.{alloc_all, pass_all, free_all, look_at, get, get_in, sets, env}
@@ -57,5 +57,5 @@ measured_spec 𝓤 𝓛 𝓜 𝓡 wired =
     sets ! (agg ! (and_then ! (get ! refl) (and_then ! (get ! refl) (no_more !)))) refl (and_tt _ ((ptr_typed x.at).0), ((ptr_typed x.at).1, (record { fits = fits }, tt))) $
     sets ! (agg ! (and_then ! (get ! refl) (and_then ! (get ! refl) (no_more !)))) refl (and_tt _ (and_tt _ ((ptr_typed x.at).0)), (record { fits = fits }, (((ptr_typed x.at).1, (record { fits = fits }, tt)), tt))) $
     returns ! (look_at ! 0 refl) $ free_all ! refl $
-    use0 𝓛 (‵ (sized_own x.at n (sized_val x.at n ∷ []))) (sized_made 𝓛 x.at n fits) $ fjoin ! $ flt_i ! n (2 ^ 64) fits $ feq_i ! (List Val) (vint w64 n ∷ []) (vint w64 n ∷ []) refl $ fjoin ! $ use2 𝓛 (‵ ((Tuple (usize ∷ chunk.the_row ∷ [])).own_val (n, x) (pair_val (vint w64 n) (sized_val x.at n) ∷ []))) (pair_of 𝓛 (usize) (chunk.the_row) (n) (x) (vint w64 n) (sized_val x.at n)) $ use0 𝓛 (raw (fact 𝓤 ((n ≡ n) × (x ≡ x)))) (fact_i 𝓤 ((n ≡ n) × (x ≡ x)) (emp 𝓤) (refl, refl)) $ nothing ! $ nothing ! $ fjoin ! $ move ! (3 ∷ 0 ∷ 2 ∷ 1 ∷ []) $
+    use0 𝓛 (‵ (sized_own x.at n (sized_val x.at n ∷ []))) (sized_made 𝓛 x.at n fits) $ fjoin ! $ flt_i ! n (2 ^ 64) fits $ feq_i ! (List Val) (vint w64 n ∷ []) (vint w64 n ∷ []) refl $ fjoin ! $ use2 𝓛 (‵ ((Tuple (usize ∷ chunk.the_row ∷ [])).own_val (n, x) (pair_val (vint w64 n) (sized_val x.at n) ∷ []))) (pair_of 𝓛 (usize) (chunk.the_row) (n) (x) (vint w64 n) (sized_val x.at n)) $ use0 𝓛 (raw (fact 𝓤 (x ≡ x))) (fact_i 𝓤 (x ≡ x) (emp 𝓤) refl) $ use0 𝓛 (raw (fact 𝓤 (n ≡ n))) (fact_i 𝓤 (n ≡ n) (emp 𝓤) refl) $ join ! $ nothing ! $ nothing ! $ fjoin ! $ move ! (3 ∷ 0 ∷ 2 ∷ 1 ∷ []) $
     by ! (leaves 𝓛 En₀ stays c z (pair_val (vint w64 n) (sized_val x.at n)) ((n, x)) (tt, tt) (tt, tt))))

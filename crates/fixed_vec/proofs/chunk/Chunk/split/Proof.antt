@@ -6,7 +6,7 @@ use base.Logic.{SProp, emp, id⊢, never}
 use prog.Wp.{Env, WpFn}
 use contract.Monad.{fact, fact_i}
 use contract.Running.{tables}
-use types.Kit.{‵, raw, ◌⊛◌, prop, at_ret, ◌$◌, ◌∵◌, !, qed, by, move, drop, use0, use1, use2, split, rewrite, regoal, fsplit, fjoin}
+use types.Kit.{‵, raw, ◌⊛◌, prop, at_ret, ◌$◌, ◌∵◌, !, qed, by, move, drop, use0, use1, use2, split, join, rewrite, regoal, fsplit, fjoin}
 use types.Part.{whole, sub, agg}
 use types.Run.{stop, fld, lit, bin, of_opd, no_more, and_then, first, blocks, exec, returns, enter}
 use types.ByLocal.{alloc_all, pass_all, free_all, look_at, get, get_in, sets, sets_last, is, env}
@@ -50,13 +50,12 @@ split_spec 𝓤 𝓛 𝓜 𝓡 wired =
     let m = a.1.0 in
     let told = sized_told x.at n vss.0 are.0.0 in
     let small = x.small in
-    let Asked : Type 0 = (0 < m) × (m ≤ n) in
-    qed 𝓛 ((raw (alive 𝓛 En₀.signature z.0.0 z.0.1) ⊛ ‵ (owns (types_at En₀.signature.params z.0.0) a vss)) ∷ raw (fact 𝓤 Asked) ∷ []) ∵ move ! (1 ∷ []) $ heard ! Asked (λ asked. split ! $ move ! (1 ∷ []) $
+    qed 𝓛 ((raw (alive 𝓛 En₀.signature z.0.0 z.0.1) ⊛ ‵ (owns (types_at En₀.signature.params z.0.0) a vss)) ∷ (raw (fact 𝓤 (0 < m)) ⊛ raw (fact 𝓤 (m ≤ n))) ∷ []) ∵ move ! (1 ∷ []) $ split ! $ heard ! (0 < m) (λ above. heard ! (m ≤ n) (λ inside. split ! $ move ! (1 ∷ []) $
     fsplit ! $ fsplit ! $ drop ! $ move ! (1 ∷ []) $ drop ! $
-    let some : 0 < n = omega (arith, asked.0, asked.1) in
+    let some : 0 < n = omega (arith, above, inside) in
     rewrite ! 0 (λ (y : Bool). ‵ (owns_if y (room_for (words_of n) x.at))) (is_live n some) refl $
     in_a_block ! x.at (λ p. room_for (words_of n) p) (id⊢ 𝓤 (never 𝓤)) (λ b o at.
-    use1 𝓛 (raw (H.room (words_of m) b o) ⊛ raw (H.room (words_of (n - m)) b (o + m * 8))) (cuts 𝓛 b o m n asked.1) $ split ! $
+    use1 𝓛 (raw (H.room (words_of m) b o) ⊛ raw (H.room (words_of (n - m)) b (o + m * 8))) (cuts 𝓛 b o m n inside) $ split ! $
     regoal ! (λ (us : List Val). prop (WpFn 𝓤 H C Λ fn us Post)) (λ i. (told.0 ∙ ap (λ (p : Ptr). sized_val p n ∷ []) at) i ++ (are.1.0.0 i ++ [])) refl $
     enter ! C Λ fn (sized_val (block_ptr b o) n ∷ vint w64 m ∷ []) Post $
     let fn' = told.1 in let fm = are.1.0.1 in let ft : 8 * m < 2 ^ 64 = omega arith in
@@ -82,6 +81,5 @@ split_spec 𝓤 𝓛 𝓜 𝓡 wired =
     use1 𝓛 (‵ (chunk_owns q (n - m))) (owned 𝓛 b (o + m * 8) (n - m)) $
     use0 𝓛 (‵ (sized_own q (n - m) (w ∷ []))) (sized_made 𝓛 q (n - m) (omega arith)) $ fjoin ! $ move ! (1 ∷ 0 ∷ []) $
     use2 𝓛 (‵ ((Tuple (chunk.the_row ∷ chunk.the_row ∷ [])).own_val (y, r) (pair_val v w ∷ []))) (pair_of 𝓛 chunk.the_row chunk.the_row y r v w) $
-    let Said : Type 0 = (m ≡ m) × (m + (n - m) ≡ n) in
-    use0 𝓛 (raw (fact 𝓤 Said)) (fact_i 𝓤 Said (emp 𝓤) (refl, omega arith)) $ nothing ! $ nothing ! $ fjoin ! $ nothing ! $ fjoin ! $ move ! (3 ∷ 0 ∷ 2 ∷ 1 ∷ []) $
-    by ! (leaves 𝓛 En₀ stays c z (pair_val v w) (y, r) (tt, (tt, tt)) (tt, (tt, tt)))))))
+    use0 𝓛 (raw (fact 𝓤 (m + (n - m) ≡ n))) (fact_i 𝓤 (m + (n - m) ≡ n) (emp 𝓤) (omega arith)) $ use0 𝓛 (raw (fact 𝓤 (m ≡ m))) (fact_i 𝓤 (m ≡ m) (emp 𝓤) refl) $ join ! $ nothing ! $ nothing ! $ fjoin ! $ nothing ! $ fjoin ! $ move ! (3 ∷ 0 ∷ 2 ∷ 1 ∷ []) $
+    by ! (leaves 𝓛 En₀ stays c z (pair_val v w) (y, r) (tt, (tt, tt)) (tt, (tt, tt))))))))
