@@ -10,7 +10,8 @@
  *
  * First it plays WARM jobs and twice ROUNDS rounds of JOBS jobs, and notes all calls. Then it plays the WARM jobs again,
  * and prints `ready` and a sum over their starts. For each line that it reads it makes the calls of one round: in turn
- *   job S P        P is the nanoseconds of all calls for one job: a submit, a finish, and each call for the next start
+ *   job S P        P is the nanoseconds of all calls for one job: a submit, a finish, and each call for the next start.
+ *                  They are of processor time, all others on the clock.
  *   next S P Q R   the medians of single calls that start a job and of those that start none, and the 99th percentile
  *                  of both together
  * S is a sum over all starts so far, which must be those of the first time.
@@ -158,9 +159,9 @@ static void begin(uint32_t jobs) {
 
 /* ---- rounds */
 
-static uint64_t nanoseconds(void) {
+static uint64_t nanoseconds(clockid_t clock) {
     struct timespec time;
-    clock_gettime(CLOCK_MONOTONIC, &time);
+    clock_gettime(clock, &time);
     return (uint64_t)time.tv_sec * 1000000000 + (uint64_t)time.tv_nsec;
 }
 
@@ -194,11 +195,11 @@ static void make_call(const struct call *call) {
 }
 
 static void time_jobs(const struct call *from, const struct call *end, uint32_t jobs) {
-    uint64_t began = nanoseconds();
+    uint64_t began = nanoseconds(CLOCK_PROCESS_CPUTIME_ID);
     for (const struct call *call = from; call < end; call++) {
         make_call(call);
     }
-    double all = (double)(nanoseconds() - began);
+    double all = (double)(nanoseconds(CLOCK_PROCESS_CPUTIME_ID) - began);
     printf("job %" PRIu64 " %.1f\n", sum, all / jobs);
 }
 
@@ -225,7 +226,7 @@ static void add_sample(struct samples *it, uint64_t ticks) {
 
 static void time_nexts(const struct call *from, const struct call *end) {
     struct samples kinds[3] = {{NULL, 0}, {NULL, 0}, {NULL, 0}};
-    uint64_t nothing = ticks_of_nothing(), began = nanoseconds(), first = ticks();
+    uint64_t nothing = ticks_of_nothing(), began = nanoseconds(CLOCK_MONOTONIC), first = ticks();
     for (unsigned i = 0; i < 3; i++) {
         kinds[i].all = room_for(NULL, (size_t)(end - from) + 1, sizeof *kinds[i].all);
     }
@@ -238,7 +239,7 @@ static void time_nexts(const struct call *from, const struct call *end) {
             add_sample(&kinds[sum != before ? 1 : 2], own);
         }
     }
-    double scale = (double)(nanoseconds() - began) / (double)(ticks() - first);
+    double scale = (double)(nanoseconds(CLOCK_MONOTONIC) - began) / (double)(ticks() - first);
     printf("next %" PRIu64 " %.1f %.1f %.1f\n", sum, (double)percentile(&kinds[1], 50) * scale,
            (double)percentile(&kinds[2], 50) * scale, (double)percentile(&kinds[0], 99) * scale);
     for (unsigned i = 0; i < 3; i++) {
