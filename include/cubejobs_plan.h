@@ -63,7 +63,7 @@ enum cubejobs_plan_code {
     CUBEJOBS_PLAN_ALREADY_OPEN = 14,  /* The handle that is to be opened is open. */
     CUBEJOBS_PLAN_BAD_VERSION = 15,   /* The header is not of the library's version. */
     CUBEJOBS_PLAN_NO_JOB = 19,        /* There is no job. */
-    CUBEJOBS_PLAN_OUT_OF_RANGE = 45,  /* A number is out of range. */
+    CUBEJOBS_PLAN_OUT_OF_RANGE = 45,  /* A number or an address is out of range. */
     CUBEJOBS_PLAN_FULL = 46,          /* The planner has as many jobs as it may have. */
     CUBEJOBS_PLAN_WRONG_STATE = 47,   /* The job waits or runs, or the block is free or in use. */
     CUBEJOBS_PLAN_TIME_BACK = 48      /* The time is before that of the last call. */
@@ -156,18 +156,35 @@ struct cubejobs_plan_counts {
 /* Returns how many bytes a planner needs at most, or 0 if an option is out of range. */
 uint64_t cubejobs_plan_bytes(struct cubejobs_plan_options options);
 
-/* Does what cubejobs_plan_open does, which passes the version of this header. */
+/* Memory of yours, as words of 8 bytes. There are none unless it begins at a multiple of 8. */
+struct cubejobs_plan_memory {
+    void *at;
+    uint64_t words;
+};
+
+/* Does what cubejobs_plan_open does, which passes the version of this header. `address` is that of
+ * `memory`, or 0. OUT_OF_MEMORY also means that there are too few words. */
 CUBEJOBS_NODISCARD enum cubejobs_plan_code cubejobs_plan_open_version(struct cubejobs_plan *plan, uint32_t version,
                                                                       struct cubejobs_plan_options options,
-                                                                      void *memory);
+                                                                      struct cubejobs_plan_memory memory,
+                                                                      uintptr_t address);
 
-/* Opens a planner without jobs, at time 0. It takes all its memory now. `memory` is null: this
- * version takes no memory of yours. Codes: BAD_VERSION, ALREADY_OPEN, OUT_OF_RANGE (an option, or
- * `memory`), OUT_OF_MEMORY, DONE. */
+/* Opens a planner without jobs, at time 0. It takes all its memory now.
+ *
+ * `memory` is null, or the start of at least cubejobs_plan_bytes(options) bytes of yours. With null
+ * the planner takes memory by malloc. Else it takes none, and the bytes are its own until you close
+ * it. Their content does not matter. You may move the handle, but not these bytes.
+ *
+ * Codes: BAD_VERSION, ALREADY_OPEN, OUT_OF_RANGE (an option, or `memory` is no multiple of 8),
+ * OUT_OF_MEMORY (only if `memory` is null), DONE. */
 CUBEJOBS_NODISCARD CUBEJOBS_INLINE enum cubejobs_plan_code cubejobs_plan_open(struct cubejobs_plan *plan,
                                                                               struct cubejobs_plan_options options,
                                                                               void *memory) {
-    return cubejobs_plan_open_version(plan, CUBEJOBS_PLAN_VERSION, options, memory);
+    struct cubejobs_plan_memory lent = {0, 0};
+    const uintptr_t address = CUBEJOBS_CAST(uintptr_t, memory);
+    lent.at = memory;
+    if (memory && address % 8 == 0) lent.words = cubejobs_plan_bytes(options) / 8;
+    return cubejobs_plan_open_version(plan, CUBEJOBS_PLAN_VERSION, options, lent, address);
 }
 
 /* Submits a job, which waits from now on. Codes: NOT_OPEN, OUT_OF_RANGE (its processors or its
@@ -215,7 +232,8 @@ struct cubejobs_plan_counts cubejobs_plan_counts(struct cubejobs_plan *plan);
 #pragma GCC diagnostic pop
 #endif
 
-/* Shuts the handle, and frees the planner with all its jobs. Codes: NOT_OPEN, DONE. */
+/* Shuts the handle, and frees the planner with all its jobs. Memory of yours is yours again. Codes:
+ * NOT_OPEN, DONE. */
 enum cubejobs_plan_code cubejobs_plan_close(struct cubejobs_plan *plan);
 
 #ifdef __cplusplus

@@ -1,8 +1,8 @@
 """Plays random events on the scheduler in its source form and on a plain model of it, and compares all answers.
 
 `checks/run plan [--long]` builds plan.rs over `rust/src/source`. It plays 60,000 events, and with `--long` 1,000,000:
-machines of up to 256 processors, jobs of all classes, blocks that go out of service and return, jobs that end late, full
-tables. plan_model.py is the model.
+machines of up to 256 processors, jobs of all classes, jobs into slots by name, blocks that go out of service and return,
+jobs that end late, full tables. plan_model.py is the model.
 
 It must see slips.
 """
@@ -22,6 +22,7 @@ SLIPS = (
     Slip("a job without an estimate is brief", "sched_core/small.rs", "return 0;", "return NEVER;"),
     Slip("the front of a queue stays", "wait_queue/queues.rs", "place_after(nodes, queue.front, queue.root, slot)", "queue.front"),
     Slip("each usable half is chosen", "sched_blocks/blocks.rs", "if !self.out.has_fit_in(k, upper) {", "if false {"),
+    Slip("a free slot is not linked back", "sched_jobs/line_table.rs", "self.set_rank(next, slot as u64 + 1);", ""),
     Slip("all jobs come before", "sched_core/forecast.rs", "before + 1", "before + 2"),
 )
 
@@ -57,7 +58,9 @@ class Player:
         processors = one.randint(1, size) if one.random() < 0.4 else min(size, one.choice((1, 1, 2, 3, 4)))
         estimate = one.choice((0, one.randint(1, 20), one.randint(1, 200), NEVER - one.randrange(3)))
         job = one.randrange(1000), estimate, processors, one.randrange(self.classes)
-        self.play("s " + " ".join(map(str, job)), "ok" if self.model.submit(*job)[0] == DONE else "full")
+        done = "ok" if self.model.submit(*job)[0] == DONE else "full"
+        letter, slot = ("i", [one.randrange(60)]) if one.random() < 0.4 else ("s", [])
+        self.play(" ".join(map(str, [letter, *job, *slot])), done)
 
     def use_block(self):
         one, model = self.random, self.model

@@ -1,6 +1,6 @@
 //! Plays events from the standard input on the scheduler in its source form, and prints each answer.
 //!
-//! An event is a line: a letter and numbers. `o` opens a scheduler, `s` submits, `c` cancels, `d` ends a job, `f` asks of
+//! An event is a line: a letter and numbers. `o` opens a scheduler, `s` submits, `i` names the slot too, `c` cancels, `d` ends a job, `f` asks of
 //! one, `b` and `v` take a block out of service and put it back, `n` makes a decision, after a look if its last number is
 //! 1, and `k` asks for the counts.
 #![allow(dead_code)]
@@ -11,6 +11,7 @@ extern crate alloc;
 #[rustfmt::skip]
 mod source;
 
+use source::kit::fixed_vec::Store;
 use source::kit::alloc::Global;
 use source::sched_core::{Forecast, Place, Region, SchedJob, Scheduler, NEVER};
 use std::collections::HashMap;
@@ -41,7 +42,8 @@ fn shown(scheduler: &Scheduler, slot: u32) -> String {
 
 impl Played {
     fn opened(numbers: &[u64]) -> Played {
-        let Ok(scheduler) = Scheduler::new(Global, numbers[0] as u32, numbers[1] as usize, numbers[2] as u32) else {
+        let mut store = Store::heap(Global);
+        let Ok(scheduler) = Scheduler::new(&mut store, numbers[0] as u32, numbers[1] as usize, numbers[2] as u32) else {
             panic!("no memory")
         };
         Played { scheduler, tickets: HashMap::new() }
@@ -51,12 +53,32 @@ impl Played {
         self.scheduler.find(*self.tickets.get(&number)?)
     }
 
+    /// Submits into the first vacant slot from one on, after the first used one refused the job.
+    fn submit_into_some(&mut self, from: u64, job: SchedJob) -> Option<u32> {
+        let slots = self.scheduler.capacity() as u64;
+        let (from, number) = (from.checked_rem(slots)?, self.scheduler.submitted());
+        if let Some(used) = self.scheduler.next_used(from as u32) {
+            let before = shown(&self.scheduler, used);
+            assert!(!self.scheduler.submit_into(used, job), "a slot with a job gets another");
+            assert!(before == shown(&self.scheduler, used) && number == self.scheduler.submitted(), "a refusal changes a job");
+        }
+        let mut round = (from..slots).chain(0..from).map(|it| it as u32);
+        let slot = round.find(|it| matches!(self.scheduler.place(*it), Place::Absent))?;
+        assert!(self.scheduler.submit_into(slot, job), "a vacant slot gets no job");
+        assert!(number == self.scheduler.arrival(slot), "another slot gets the job");
+        Some(slot)
+    }
+
     fn submit(&mut self, numbers: &[u64]) -> String {
         let processors = numbers[2] as u32;
         let dim = (32 - (processors - 1).leading_zeros()) as u8;
         let job = SchedJob { payload: numbers[0], estimate: numbers[1], processors, class: numbers[3] as u8, dim };
         let number = self.scheduler.submitted();
-        let Some(slot) = self.scheduler.submit(job) else {
+        let slot = match numbers.get(4) {
+            Some(&from) => self.submit_into_some(from, job),
+            None => self.scheduler.submit(job),
+        };
+        let Some(slot) = slot else {
             return "full".to_string();
         };
         self.tickets.insert(number, self.scheduler.ticket(slot));
@@ -97,7 +119,7 @@ impl Played {
     fn answer(&mut self, letter: &str, numbers: &[u64]) -> String {
         let block = |numbers: &[u64]| Region { base: numbers[0], dim: numbers[1] as u32 };
         match letter {
-            "s" => self.submit(numbers),
+            "s" | "i" => self.submit(numbers),
             "c" => self.end(numbers[0], true),
             "d" => self.end(numbers[0], false),
             "f" => self.found(numbers[0]).map_or("none".to_string(), |slot| shown(&self.scheduler, slot)),

@@ -1,10 +1,12 @@
 // Calls the planner at random, and prints each call with its answer: a line for each. plan_calls.py makes the same
 // calls of a plain model, and compares. `plan_calls SEED PLANNERS CALLS` opens PLANNERS planners, on machines of
 // dimension 0 to 8, and makes CALLS calls of each: all classes, estimates that are wrong, unknown or huge, blocks out
-// of service, bad arguments, and tickets that no job has. It is C and C++ alike.
+// of service, bad arguments, and tickets that no job has. Half of the planners are in memory of ours, between marks.
+// It is C and C++ alike.
 #include <inttypes.h>
 #include <stdio.h>
 #include <stdlib.h>
+#include <string.h>
 
 #include "cubejobs_plan.h"
 
@@ -197,10 +199,50 @@ static void call_shut(void) {
     printf("x = %u\n", cubejobs_plan_close(&plan));
 }
 
+// Prints 0 for no memory of ours, 1 for an address that is a multiple of 8, and 2 for another.
 static void open(struct cubejobs_plan_options with, uint32_t version, void *memory) {
-    const uint32_t code = cubejobs_plan_open_version(&plan, version, with, memory);
-    printf("o %u %u %u %u %u %d = %u\n", version, with.dim, with.jobs, with.patience, with.flags, memory != NULL, code);
+    const struct cubejobs_plan_memory none = {NULL, 0};
+    const uint32_t code = version == CUBEJOBS_PLAN_VERSION ? cubejobs_plan_open(&plan, with, memory)
+                                                           : cubejobs_plan_open_version(&plan, version, with, none, 0);
+    const int kind = !memory ? 0 : (uintptr_t)memory % 8 ? 2 : 1;
+    printf("o %u %u %u %u %u %d = %u\n", version, with.dim, with.jobs, with.patience, with.flags, kind, code);
     printf("y %u %u %u %u = %" PRIu64 "\n", with.dim, with.jobs, with.patience, with.flags, cubejobs_plan_bytes(with));
+}
+
+// ---- memory of ours: the bytes of a planner between two rows of marks
+
+enum { MARKS = 64, MARK = 0xA5 };
+
+static unsigned char *lent;
+static size_t lent_bytes;
+
+static void *lend(void) {
+    lent_bytes = (size_t)cubejobs_plan_bytes(options);
+    lent = (unsigned char *)malloc(MARKS + lent_bytes + MARKS);
+    memset(lent, MARK, MARKS + lent_bytes + MARKS);
+    return lent + MARKS;
+}
+
+static void must_be_marked(const unsigned char *from, size_t count) {
+    for (size_t i = 0; i < count; i++)
+        if (from[i] != MARK) {
+            fprintf(stderr, "plan_calls.c: a byte is written that is not the planner's\n");
+            exit(1);
+        }
+}
+
+// No byte beside those of the planner was written, and once it is closed its bytes are ours.
+static void close_lent(void) {
+    if (lent) must_be_marked(lent, MARKS);
+    if (lent) must_be_marked(lent + MARKS + lent_bytes, MARKS);
+    printf("x = %u\n", cubejobs_plan_close(&plan));
+    if (lent) memset(lent, MARK, MARKS + lent_bytes);
+}
+
+static void take_back(void) {
+    if (lent) must_be_marked(lent, MARKS + lent_bytes + MARKS);
+    free(lent);
+    lent = NULL;
 }
 
 // Opens the planner, after openings that are refused.
@@ -208,6 +250,7 @@ static void open_next(unsigned most) {
     static const unsigned patiences[] = {0, 0, 1, 2, 4, 16, UINT32_MAX};
     static uint64_t memory[8];
     struct cubejobs_plan_options bad;
+    const unsigned skew = 1 + below(7);
     options.dim = below(MOST_DIM + 1);
     options.jobs = most;
     options.patience = patiences[below(sizeof patiences / sizeof *patiences)];
@@ -219,10 +262,10 @@ static void open_next(unsigned most) {
     case 2: bad.flags = 1 + below(8); break;
     default: break;
     }
-    open(bad, CUBEJOBS_PLAN_VERSION, bad.dim == options.dim && bad.jobs == most && !bad.flags ? memory : NULL);
+    open(bad, CUBEJOBS_PLAN_VERSION, bad.dim == options.dim && bad.jobs == most && !bad.flags ? (char *)memory + skew : NULL);
     open(bad, below(2) ? 0 : CUBEJOBS_PLAN_VERSION + 1 + below(3), NULL);
-    open(options, CUBEJOBS_PLAN_VERSION, NULL);
-    open(bad, CUBEJOBS_PLAN_VERSION, NULL);
+    open(options, CUBEJOBS_PLAN_VERSION, below(2) ? lend() : NULL);
+    open(bad, CUBEJOBS_PLAN_VERSION, below(2) ? memory : NULL);
 }
 
 int main(int count_of, char **words) {
@@ -245,8 +288,9 @@ int main(int count_of, char **words) {
         }
         walk();
         count();
-        printf("x = %u\n", cubejobs_plan_close(&plan));
+        close_lent();
         call_shut();
+        take_back();
     }
     return 0;
 }

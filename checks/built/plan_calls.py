@@ -3,7 +3,8 @@ has the archive.
 
 plan_calls.c makes random calls and prints each one with its answer. Here plan_model.py answers the same calls, and each
 line must agree in all its numbers. It is run as C and as C++, with the compiler's checks of addresses, also of memory
-that is not freed. A model with a fault must be seen. Each request for memory is refused in turn. SEED, PLANNERS and
+that is not freed. Half of the planners are in memory of the caller, between marks that must stay. A model with a fault
+must be seen. Each request for memory is refused in turn. SEED, PLANNERS and
 CALLS are for a longer run: calls of so many planners.
 """
 import os
@@ -25,6 +26,8 @@ SLOTS = 2**24
 # The bytes of the fixed parts, of a node of a machine and of a job.
 BYTES = 4000, 14, 96
 NOTHING = [0] * 10
+# How plan_calls.c prints an address that is no multiple of 8.
+MISALIGNED = 2
 VERSION = 1
 
 
@@ -54,7 +57,7 @@ class Replay:
             return [BAD_VERSION]
         if self.model:
             return [ALREADY_OPEN]
-        if self.y([dim, jobs, patience, flags], None) == [0] or memory:
+        if self.y([dim, jobs, patience, flags], None) == [0] or memory == MISALIGNED:
             return [OUT_OF_RANGE]
         self.model = self.rules(dim, jobs, patience)
         self.arrivals, self.tickets = {}, {}

@@ -40,8 +40,8 @@ LEFT_OUT = (
 )
 NO_TREE = ("status_word/use_bits", "cube_core/act", "cube_core/effect", "cube_core/world", "collectives/padding")
 SOURCE, KIT = "crate::source", "crate::source::kit"
-# What the shim has of the toolchain's crates and of its `std`. Other paths of `std` are those of `core`, if listed.
-KIT_CRATES = ("atomic_table", "counted_slot")
+# What the shim has of the toolchain's crates, of `fixed_vec`, which has raw pointers, and of its `std`. Other paths of `std` are those of `core`, if listed.
+KIT_CRATES = ("atomic_table", "counted_slot", "fixed_vec")
 KIT_STD = ("alloc", "collections", "snapshot", "sync::Arc")
 CORE = ("cmp", "fmt", "marker", "mem", "ops", "sync::atomic")
 PRELUDE = ("Box", "Vec", "vec")

@@ -74,6 +74,7 @@ QUOTES = {
     "tool_args": ("tool_commands/src/check_command.rt#pub fn check<",),
     "tool_commands": ("jobs_cli/src/main.rt#fn tool",),
     "block_trees": ("sched_blocks/src/nodes.rt#pub(crate) fn note_use",),
+    "fixed_vec": ("sched_blocks/src/blocks.rt#pub fn new",),
     "wait_queue": ("sched_jobs/src/lines.rt#pub(crate) fn join_line",),
     "sched_blocks": ("sched_core/src/start.rt#fn launch",),
     "sched_jobs": ("sched_core/src/choice.rt#fn passing_any",),

@@ -28,7 +28,7 @@ PAGES = "crates/*/CALLING.md"
 # them from end to end, so they stay short. Others explain or list, are read in parts, and have no limit.
 GUIDES = {
     "README.md": 1200, "docs/GUIDE.md": 1900, "docs/C.md": 2760, "docs/RUST.md": 1320, "docs/INSTALL.md": 230,
-    "docs/SOURCE.md": 830, "docs/MACHINES.md": 900,
+    "docs/SOURCE.md": 860, "docs/MACHINES.md": 900,
 }
 # Words that are not written, and what to say.
 BANNED = {

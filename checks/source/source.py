@@ -4,7 +4,7 @@
 - An audit walks along the tokens of a source and of its text side by side. It shares no code with the eraser. What is
   left out must begin with a word of the prover, and what is put in must be on a short list.
 - The eraser must refuse forms that it does not know, and those that Rust and Rattle read differently.
-- The shim has at most 300 lines of code. What it replaces in the toolchain has not changed since the shim was read.
+- The shim has at most 350 lines of code. What it replaces in the toolchain has not changed since the shim was read.
 - docs/SOURCE.md says of each function with a `requires` that the package calls, what keeps it.
 
 `checks/run source [--write]`.
@@ -21,7 +21,7 @@ from checks.lib.toolchain import kit
 
 HOME, SHIM, EXPORTS, PAGE = "rust/src/source", "rust/src/source/kit", "rust/c/src", "docs/SOURCE.md"
 BY_HAND = (f"{HOME}/mod.rs", f"{EXPORTS}/lib.rs", f"{EXPORTS}/slices.rs")
-LINES_OF_SHIM = 300
+LINES_OF_SHIM = 350
 # The files of the toolchain that the shim stands for, by the first half of the checksum that each had when it was read.
 READ = {
     "atomic_table/src/badge.rt": "1f062ea0adb5c841a390f95e2522615e",
@@ -123,7 +123,7 @@ def left_out(words, at):
 
 def comparable(text, crate):
     """Returns an erased text with the paths of its source, without what stands at its head."""
-    text = re.sub(r"crate::source::kit::(atomic_table|counted_slot)\b", r"\1", text)
+    text = re.sub(r"crate::source::kit::(atomic_table|counted_slot|fixed_vec)\b", r"\1", text)
     text = text.replace("crate::source::kit::", "std::").replace(f"crate::source::{crate}::", "crate::")
     text = re.sub(r"\bcrate::source::(\w+)", r"\1", text)
     text = re.sub(r"ManuallyDrop::new\((\w+)\)", r"unsafe { ManuallyDrop::new_unchecked(\1) }", text)

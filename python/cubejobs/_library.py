@@ -34,6 +34,12 @@ class PlanOptions(ctypes.Structure):
                 ("flags", ctypes.c_uint32)]
 
 
+class PlanMemory(ctypes.Structure):
+    """Memory that a caller lends: none here."""
+
+    _fields_ = [("at", ctypes.c_void_p), ("words", ctypes.c_uint64)]
+
+
 class PlanRequest(ctypes.Structure):
     """A job as it is submitted."""
 
@@ -95,7 +101,7 @@ _FIT_CALLS: _Calls = {
     "occupancy": (_OccupancyAnswer, _IMAGE),
 }
 _PLAN_CALLS: _Calls = {
-    "open_version": (_U32, [_HANDLE, _U32, PlanOptions, ctypes.c_void_p]),
+    "open_version": (_U32, [_HANDLE, _U32, PlanOptions, PlanMemory, _U64]),
     "submit": (_PlanJob, [_HANDLE, PlanRequest]),
     "cancel": (_PlanJob, [_HANDLE, _U64]),
     "finish": (_PlanJob, [_HANDLE, _U64]),
@@ -166,6 +172,6 @@ def load_plan() -> ctypes.CDLL:
     ImportError if it is missing, or of another one."""
     name = "libcubejobs_plan.so"
     library = _opened(name, "cubejobs_plan", _PLAN_CALLS)
-    refused = library.open_version(Handle(), PLAN_VERSION, PlanOptions(), None)
+    refused = library.open_version(Handle(), PLAN_VERSION, PlanOptions(), PlanMemory(), 0)
     _must_fit(name, refused != BAD_VERSION)
     return library

@@ -8,7 +8,8 @@ from types import TracebackType
 from typing import Any, Callable, ContextManager, Dict, Iterator, NamedTuple, NoReturn, Optional, Type
 
 from cubejobs._common import OtherProcess, Process, Region, natural
-from cubejobs._library import (DONE, MAX_DIM, MAX_JOBS, NEVER, PLAN_VERSION, Handle, PlanOptions, PlanRequest, load_plan)
+from cubejobs._library import (DONE, MAX_DIM, MAX_JOBS, NEVER, PLAN_VERSION, Handle, PlanMemory, PlanOptions,
+                               PlanRequest, load_plan)
 
 # The codes of cubejobs_plan.h that become exceptions here.
 NO_JOB, OUT_OF_MEMORY, FULL, WRONG_STATE, TIME_BACK = 19, 11, 46, 47, 48
@@ -118,7 +119,7 @@ class Planner:
         self._handle = Handle()
         weakref.finalize(self, _drop, self._handle, self._mark).atexit = False
         options = PlanOptions(self.dim, self.capacity, natural(patience, 2**32 - 1, "the patience"), 0)
-        if _plan.open_version(self._handle, PLAN_VERSION, options, None) != DONE:
+        if _plan.open_version(self._handle, PLAN_VERSION, options, PlanMemory(), 0) != DONE:
             raise MemoryError("there is no memory for the planner")
 
     def submit(self, payload: Any = None, *, processors: int, estimate: Optional[int] = None, job_class: int = 0) -> int:

@@ -49,6 +49,13 @@ pub struct Options {
     pub flags: u32,
 }
 
+/// Memory that a caller lends. This package lends none.
+#[repr(C)]
+struct Memory {
+    at: *mut u8,
+    words: u64,
+}
+
 #[repr(C)]
 #[derive(Clone, Copy)]
 pub struct Request {
@@ -92,7 +99,13 @@ const _: () = assert!(size_of::<Request>() == 24 && size_of::<Job>() == 72 && si
 
 #[link(name = "cubejobs_plan", kind = "static")]
 unsafe extern "C" {
-    fn cubejobs_plan_open_version(plan: &mut Handle, version: u32, options: Options, memory: *mut u8) -> u32;
+    fn cubejobs_plan_open_version(
+        plan: &mut Handle,
+        version: u32,
+        options: Options,
+        memory: Memory,
+        address: usize,
+    ) -> u32;
     fn cubejobs_plan_submit(plan: &mut Handle, request: Request) -> Job;
     fn cubejobs_plan_cancel(plan: &mut Handle, ticket: u64) -> Job;
     fn cubejobs_plan_finish(plan: &mut Handle, ticket: u64) -> Job;
@@ -108,7 +121,7 @@ unsafe extern "C" {
 pub fn open(plan: &mut Handle, options: Options) -> u32 {
     // SAFETY: the reference is to a whole handle. Only the library has written to it since it was
     // made. The library asks for no memory.
-    unsafe { cubejobs_plan_open_version(plan, VERSION, options, ptr::null_mut()) }
+    unsafe { cubejobs_plan_open_version(plan, VERSION, options, Memory { at: ptr::null_mut(), words: 0 }, 0) }
 }
 
 pub fn submit(plan: &mut Handle, request: Request) -> Job {

@@ -4,8 +4,12 @@
 /// another version.
 pub const VERSION: u32 = 1;
 
-/// The tag of an open handle. A handle with any other tag is shut.
+/// The tag of an open handle of a planner on the heap.
 pub const OPEN: u64 = 0x6375_6265_706C_616E;
+
+/// The tag of an open handle of a planner in memory of the caller. A handle with any other tag is
+/// shut.
+pub const LENT: u64 = 0x6375_6265_706C_656E;
 
 /// The call succeeded.
 pub const DONE: u32 = 0;

@@ -1,7 +1,7 @@
 //! The handle of a planner, which C keeps.
-ghost use Rattle.std.specs.Prelude.{◌≡◌, ◌↔◌, IsSome};
+ghost use Rattle.std.specs.Prelude.{◌≡◌, ◌↔◌, false, IsSome, IsTrue};
 ghost use Rattle.cubejobs_plan.specs.declared.codes.TheConstants.{OPEN};
-ghost use Rattle.cubejobs_plan.specs.CoreIn.{core_in};
+ghost use Rattle.cubejobs_plan.specs.CoreIn.{core_in, is_open_tag};
 
 use crate::opaque_ptr::OpaquePtr;
 
@@ -11,5 +11,6 @@ use crate::opaque_ptr::OpaquePtr;
 pub struct Handle {
     pub(crate) tag: u64,
     pub(crate) at: OpaquePtr,
-    ghost open: { tag ≡ OPEN ↔ IsSome (core_in at.content) },
+    ghost open: { IsTrue (is_open_tag tag) ↔ IsSome (core_in at.content) },
+    ghost own: { tag ≡ OPEN → at.lent ≡ false },
 }

@@ -1,10 +1,12 @@
-//! The pointer of a handle to its content on the heap, or to nothing. C sees an address.
-ghost use Rattle.std.specs.Prelude.{◌≡◌, None, Some, Option};
+//! The pointer of a handle to its content, or to nothing. C sees an address.
+ghost use Rattle.std.specs.Prelude.{◌≡◌, ◌<◌, None, Some, Option, Bool, true, false};
 ghost use Rattle.std.specs.Borrow.{sem};
 ghost use Rattle.cubejobs_plan.specs.declared.planner.Planner.{Planner as Inside};
-ghost use Rattle.cubejobs_plan.specs.InnerOpaquePtr.{opaque_owns, content_coded};
+ghost use Rattle.fixed_vec.specs.Words.{FitsWords};
+ghost use Rattle.cubejobs_plan.specs.InnerOpaquePtr.{opaque_owns, content_coded, planner_row};
 
 use crate::planner::Planner;
+use fixed_vec::Chunk;
 use hidden_box::Parts;
 use std::alloc::Global;
 use std::marker::Model;
@@ -16,10 +18,12 @@ pub(crate) struct OpaquePtr {
     ptr: *mut u8,
     alloc: Global,
     pub ghost content: { Option Inside } by { content_coded },
+    /// Whether the content lies in words that the caller lent.
+    pub ghost lent: { Bool },
 }
 
 impl Model for OpaquePtr {
-    ghost also_owns = { λ h. opaque_owns h.alloc h.ptr h.content };
+    ghost also_owns = { λ h. opaque_owns h.lent h.alloc h.ptr h.content };
 }
 
 impl OpaquePtr {
@@ -28,7 +32,7 @@ impl OpaquePtr {
     // Makes a pointer to the content of a box.
     #[inline(always)]
     fn of_parts(parts: Parts<Planner, Global>) -> OpaquePtr
-        ensures { result.content ≡ Some parts.value }
+        ensures { (result.content ≡ Some parts.value) × (result.lent ≡ false) }
     {
         let Parts { ptr, alloc } = parts;
         OpaquePtr {
@@ -37,10 +41,10 @@ impl OpaquePtr {
         }
     }
 
-    // Returns the pointer as the fields of a box. It must have a content.
+    // Returns the pointer as the fields of a box. It must have a content on the heap.
     #[inline(always)]
     fn into_parts(self) -> Parts<Planner, Global>
-        requires { (inside : Inside) × (self.content ≡ Some inside) }
+        requires { (inside : Inside) × (self.content ≡ Some inside) × (self.lent ≡ false) }
         ensures { self.content ≡ Some result.value }
     {
         let OpaquePtr { ptr, alloc } = self;
@@ -64,9 +68,23 @@ impl OpaquePtr {
     // Makes a pointer to the content of a box.
     #[inline(always)]
     pub fn of(content: Box<Planner>) -> OpaquePtr
-        ensures { result.content ≡ Some content.value }
+        ensures content { result.content ≡ Some content.value }
+        ensures heap { result.lent ≡ false }
     {
         OpaquePtr::of_parts(Parts::of(content))
+    }
+
+    // Puts a content into words that the caller lent, and makes a pointer to it.
+    pub fn in_words(words: Chunk, content: Planner, alloc: Global) -> OpaquePtr
+        requires some { 0 < words.words }
+        requires fits { FitsWords planner_row 1 words.words }
+        ensures content { result.content ≡ Some content }
+        ensures lent { result.lent ≡ true }
+    {
+        let Chunk { at, words: _ } = words;
+        let place = at as *mut Planner;
+        unsafe { place.write(content) }
+        OpaquePtr { ptr: at, alloc }
     }
 
     // Lends the content in its place. There must be one.
@@ -79,10 +97,10 @@ impl OpaquePtr {
         unsafe { &mut *(self.ptr as *mut Planner) }
     }
 
-    // Returns the content in its box. There must be one.
+    // Returns the content in its box. There must be one on the heap.
     #[inline(always)]
     pub fn into_box(self) -> Box<Planner>
-        requires { (inside : Inside) × (self.content ≡ Some inside) }
+        requires { (inside : Inside) × (self.content ≡ Some inside) × (self.lent ≡ false) }
         ensures { self.content ≡ Some result.value }
     {
         self.into_parts().into_box()

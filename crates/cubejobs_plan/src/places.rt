@@ -1,9 +1,10 @@
-//! The planner of a handle: in its place, or lifted out of it.
-ghost use Rattle.std.specs.Prelude.{◌≡◌, ◌↔◌, None, Some, IfSome, IfNone, IsSome, IsTrue};
+//! The planner of a handle in its place.
+ghost use Rattle.std.specs.Prelude.{◌≡◌, ◌↔◌, None, Some, IsSome, IsTrue};
+ghost use Rattle.cubejobs_plan.specs.declared.planner.Planner.{Planner as Inside};
 ghost use Rattle.cubejobs_plan.specs.CoreIn.{core_in};
 ghost use Rattle.cubejobs_plan.specs.Handle.{core_of};
 
-use crate::codes::OPEN;
+use crate::codes::{LENT, OPEN};
 use crate::handle::Handle;
 use crate::opaque_ptr::OpaquePtr;
 use crate::planner::Planner;
@@ -33,12 +34,21 @@ impl Handle {
         }
     }
 
-    // Makes it the handle of a planner. A planner that it had is dropped.
+    // Makes the handle of a planner in memory of the caller.
     #[inline(always)]
-    pub(crate) fn put(&mut self, place: Box<Planner>)
-        ensures { core_of self.new ≡ Some place.value.scheduler }
+    pub(crate) fn of_lent(at: OpaquePtr) -> Handle
+        requires content { (inside : Inside) × (at.content ≡ Some inside) }
+        ensures { core_of result ≡ core_in at.content }
     {
-        let Handle { tag: _, at: _ } = replace(self, Handle::of(place));
+        Handle { tag: LENT, at }
+    }
+
+    // Makes it another handle. A planner that it had is forgotten.
+    #[inline(always)]
+    pub(crate) fn put(&mut self, handle: Handle)
+        ensures { core_of self.new ≡ core_of handle }
+    {
+        let Handle { tag: _, at: _ } = replace(self, handle);
     }
 
     // Returns whether it is open.
@@ -46,35 +56,15 @@ impl Handle {
     pub(crate) fn is_open(&self) -> bool
         ensures { IsTrue result ↔ IsSome (core_of self.now) }
     {
-        self.tag == OPEN
+        self.tag == OPEN || self.tag == LENT
     }
 
-    // Returns the planner in its place, if the handle is open.
+    // Drops the planner, if it is on the heap. Memory of the caller stays as it is.
     #[inline(always)]
-    fn into_place(self) -> Option<Box<Planner>>
-        ensures some { IfSome result (λ place. core_of self ≡ Some place.value.scheduler) }
-        ensures none { IfNone result (core_of self ≡ None) }
-    {
+    pub(crate) fn free(self) {
         let Handle { tag, at } = self;
         if tag == OPEN {
-            Some(at.into_box())
-        } else {
-            None
+            drop(at.into_box());
         }
     }
-}
-
-// Lifts the planner out of an open handle, which is shut then.
-#[inline(always)]
-pub(crate) fn lift(handle: &mut Handle, alloc: Global) -> Option<Box<Planner>>
-    ensures some { IfSome result (λ place. core_of handle.old ≡ Some place.value.scheduler) }
-    ensures shut { IfSome result (λ _. core_of handle.new ≡ None) }
-    ensures none { IfNone result (core_of handle.old ≡ None) }
-    ensures same { IfNone result (handle.new ≡ handle.old) }
-{
-    // The bytes of a shut handle stay as they are, whatever they are.
-    if !handle.is_open() {
-        return None;
-    }
-    replace(handle, Handle::shut(alloc)).into_place()
 }

@@ -1,13 +1,14 @@
 //! A machine as a value.
 
-ghost use Rattle.std.specs.Prelude.{◌≡◌, ℕ, ◌-◌, ◌^◌, ◌<◌, ◌≤◌, ◌↔◌, Some, None, IsTrue, IfErr, IfOk, IfSome, IfNone, OnOk, OnErr};
+ghost use Rattle.std.specs.Prelude.{◌≡◌, ℕ, ◌-◌, ◌^◌, ◌<◌, ◌≤◌, ◌↔◌, Some, None, IsOk, IsTrue, IfErr, IfOk, IfSome, IfNone, OnOk, OnErr};
 ghost use Rattle.cube_shape.specs.declared.region.Region.{Region as HeldRegion};
 ghost use Rattle.cube_shape.specs.Region.{Covers, IsAligned, block};
 ghost use Rattle.cube_shape.specs.Falling.{HoldsNoNarrower, IsFull, IsHeld};
 ghost use Rattle.cube_shape.specs.Machine.{Gives, HasNoFit, IsFirstFit, IsFree, IsLawful, TakesBack};
 ghost use Rattle.region_bits.specs.Count.{IsCount};
+ghost use Rattle.fixed_vec.specs.Spending.{HasWords, Spends};
 ghost use Rattle.fit_tree.specs.FirstApart.{HasNoneApart, IsFirstApart};
-ghost use Rattle.fit_tree.specs.Fit.{HoldsBlock, held_in};
+ghost use Rattle.fit_tree.specs.Fit.{HoldsBlock, fit_words, held_in};
 ghost use Rattle.fit_tree.specs.Parts.{HasFitIn, IsHalfOf};
 ghost use Rattle.fit_tree.specs.Halves.{HoldsHalves, Joins, Splits};
 
@@ -15,18 +16,19 @@ use crate::errors::{JoinError, NoFitError, NotFreeError, NotHeldError, SplitErro
 use crate::head::{COUNT_PLACES, Head};
 use crate::image;
 use cube_shape::{MAX_BITMAP_DIM, Region};
+use fixed_vec::{FixedVec, Store};
 use std::alloc::{AllocError, Global};
 use std::marker::Model;
 
 /// A machine for one thread: which aligned blocks are held.
 ///
-/// Only `new` allocates memory, `2^(n + 1)` bytes. Each other call takes at most about `2 * n`
-/// steps.
+/// Only `new` and `new_in` take memory, `2^(n + 1)` bytes. Each other call takes at most about
+/// `2 * n` steps.
 #[derive(Debug, Drop)]
 pub struct FitTree {
     dim: u32,
     head: Head,
-    rooms: Vec<u8>,
+    rooms: FixedVec<u8>,
 }
 
 impl Model for FitTree {
@@ -50,7 +52,18 @@ impl FitTree {
         ensures dim { IfOk result (λ made. made.dim ≡ n) }
         ensures free { IfOk result (λ made. (s : ℕ) → held_in made s ≡ None) }
     {
-        let mut rooms = vec![in alloc; 0u8; 2 << n]?;
+        FitTree::new_in(&mut Store::heap(alloc), n)
+    }
+
+    /// Creates such a machine in memory of a store.
+    pub fn new_in(store: &mut Store, n: u32) -> Result<Self, AllocError>
+        requires { n ≤ MAX_BITMAP_DIM }
+        ensures dim { IfOk result (λ made. made.dim ≡ n) }
+        ensures free { IfOk result (λ made. (s : ℕ) → held_in made s ≡ None) }
+        ensures spends { OnOk result (Spends (fit_words n) store.old store.new) }
+        ensures enough { HasWords (fit_words n) store.old → IsOk result }
+    {
+        let mut rooms = store.filled(0u8, 2 << n, (1 << n) / 4 + 1)?;
         let mut head = Head {
             mark: 0,
             dim: n,

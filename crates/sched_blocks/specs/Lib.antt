@@ -10,3 +10,4 @@ pub use Rattle.sched_law.specs.State.{submit, vacate}
 pub use Rattle.sched_law.specs.Policy.{Chooses, HasNone, HasUsable, IsFirst, IsHead, IsLatest, IsVacantBeside}
 pub use Rattle.sched_law.specs.Policy.{Prepares}
 pub use Rattle.sched_law.specs.Law.{IsSafe, IsSound}
+pub use Rattle.fixed_vec.specs.Spending.{HasWords, Spends}

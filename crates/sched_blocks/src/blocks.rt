@@ -1,6 +1,6 @@
 //! The blocks of a scheduler as a value.
 
-ghost use Rattle.std.specs.Prelude.{◌≡◌, ℕ, ◌+◌, ◌-◌, ◌^◌, ◌<◌, ◌≤◌, ◌↔◌, Some, IsTrue, IfOk, IfSome, IfNone};
+ghost use Rattle.std.specs.Prelude.{◌≡◌, ℕ, ◌+◌, ◌-◌, ◌^◌, ◌<◌, ◌≤◌, ◌↔◌, Some, IsOk, IsTrue, IfOk, IfSome, OnOk, IfNone};
 ghost use Rattle.cube_shape.specs.declared.region.Region.{Region as HeldRegion};
 ghost use Rattle.cube_shape.specs.Region.{IsAligned, block};
 ghost use Rattle.cube_shape.specs.Falling.{IsHeld};
@@ -9,26 +9,28 @@ ghost use Rattle.sched_law.specs.declared.job.SchedWait.{SchedWait as WaitData};
 ghost use Rattle.sched_law.specs.declared.job.SchedRun.{SchedRun as RunData};
 ghost use Rattle.sched_law.specs.State.{Sched, IsVacant, Runs, Waits, end_after, finish, held, initial, occupy, start, vacate};
 ghost use Rattle.sched_law.specs.Policy.{Chooses, HasNone, HasUsable, HasUsableIn, IsFirst, IsLatest, IsVacantBeside};
-ghost use Rattle.sched_blocks.specs.Shows.{Shows};
+ghost use Rattle.fixed_vec.specs.Spending.{HasWords, Spends};
+ghost use Rattle.sched_blocks.specs.Shows.{Shows, block_words};
 
 use crate::nodes::{lower, node_of, note_idle, note_use, upper};
 use block_trees::{end_at, is_earlier, open};
 use cube_shape::{MAX_BITMAP_DIM, Region};
 use fit_tree::FitTree;
-use std::alloc::{AllocError, Global};
+use fixed_vec::{FixedVec, Store};
+use std::alloc::AllocError;
 use std::marker::Model;
 
 /// The blocks of a scheduler for one thread: those in use, by a job or out of service, and the ends
 /// of the jobs.
 ///
-/// Only `new` allocates memory, about `28 * 2^n` bytes.
+/// Only `new` takes memory, about `28 * 2^n` bytes.
 #[derive(Debug, Drop)]
 pub struct Blocks {
     dim: u32,
     used: FitTree,
     out: FitTree,
-    ends: Vec<u64>,
-    busy: Vec<u32>,
+    ends: FixedVec<u64>,
+    busy: FixedVec<u32>,
 }
 
 impl Model for Blocks {
@@ -56,16 +58,19 @@ impl Model for Blocks {
 }
 
 impl Blocks {
-    /// Creates the blocks of a machine of dimension `n`, of which none is in use.
-    pub fn new(alloc: Global, n: u32) -> Result<Self, AllocError>
+    /// Creates the blocks of a machine of dimension `n`, of which none is in use, in memory of a
+    /// store.
+    pub fn new(store: &mut Store, n: u32) -> Result<Self, AllocError>
         requires { n ≤ MAX_BITMAP_DIM }
         ensures dim { IfOk result (λ made. made.dim ≡ n) }
         ensures shows { IfOk result (λ made. (patience : ℕ) → Shows (initial n patience) made) }
+        ensures spends { OnOk result (Spends (block_words n) store.old store.new) }
+        ensures enough { HasWords (block_words n) store.old → IsOk result }
     {
-        let used = FitTree::new(alloc, n)?;
-        let out = FitTree::new(alloc, n)?;
-        let mut ends = vec![in alloc; 0u64; 2 << n]?;
-        let mut busy = vec![in alloc; 0u32; 2 << n]?;
+        let used = FitTree::new_in(store, n)?;
+        let out = FitTree::new_in(store, n)?;
+        let mut ends = store.filled(0u64, 2 << n, 2 << n)?;
+        let mut busy = store.filled(0u32, 2 << n, 1 << n)?;
         open(&mut ends, &mut busy);
         Ok(Blocks {
             dim: n,

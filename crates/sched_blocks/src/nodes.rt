@@ -11,6 +11,7 @@ ghost use Rattle.block_trees.specs.Busy.{AreBusy, HasNoneBeside};
 
 use block_trees::{add_busy, drop_busy, set_end};
 use cube_shape::{MAX_BITMAP_DIM, Region};
+use fixed_vec::FixedVec;
 
 /// Returns the node that names a block.
 pub(crate) fn node_of(n: u32, region: Region) -> usize
@@ -50,7 +51,13 @@ pub(crate) fn upper(n: u32, region: Region) -> Region
 }
 
 /// Notes in both trees that a block is in use until an end.
-pub(crate) fn note_use(ends: &mut Vec<u64>, busy: &mut Vec<u32>, n: u32, region: Region, end: u64)
+pub(crate) fn note_use(
+    ends: &mut FixedVec<u64>,
+    busy: &mut FixedVec<u32>,
+    n: u32,
+    region: Region,
+    end: u64,
+)
     requires machine { n ≤ MAX_BITMAP_DIM }
     requires ends { length ends.old.items ≡ 2 ^ (n + 1) }
     requires busy { length busy.old.items ≡ 2 ^ (n + 1) }
@@ -68,7 +75,7 @@ pub(crate) fn note_use(ends: &mut Vec<u64>, busy: &mut Vec<u32>, n: u32, region:
 }
 
 /// Notes in both trees that a block is not in use any more.
-pub(crate) fn note_idle(ends: &mut Vec<u64>, busy: &mut Vec<u32>, n: u32, region: Region)
+pub(crate) fn note_idle(ends: &mut FixedVec<u64>, busy: &mut FixedVec<u32>, n: u32, region: Region)
     requires machine { n ≤ MAX_BITMAP_DIM }
     requires ends { length ends.old.items ≡ 2 ^ (n + 1) }
     requires busy { length busy.old.items ≡ 2 ^ (n + 1) }

@@ -8,15 +8,15 @@ use Rattle.std.proofs.lemmas.Bool.{cases_eq}
 use Rattle.sched_law.specs.declared.job.SchedJob.{SchedJob}
 use Rattle.sched_law.specs.declared.job.SchedWait.{SchedWait}
 use Rattle.sched_law.specs.declared.job.SchedRun.{SchedRun}
-use Rattle.sched_law.specs.declared.job.Place.TheVariants.{Waiting, Running}
+use Rattle.sched_law.specs.declared.job.Place.TheVariants.{Absent, Waiting, Running}
 use Rattle.sched_law.specs.State.{Sched, at, cancel, finish, occupy, pass, start, submit, vacate, without}
 use Rattle.sched_law.specs.Law.{IsSafe, IsSound}
-use Rattle.sched_law.proofs.SetLemmas.{runs_waits}
+use Rattle.sched_law.proofs.SetLemmas.{absent_waits, runs_waits}
 use Rattle.sched_blocks.specs.Layout.{Layout}
 use Rattle.sched_blocks.specs.Shows.{Shows}
 use Rattle.sched_blocks.proofs.SameLemmas.{at_shows, cancel_shows, pass_shows, submit_shows}
 use Rattle.sched_jobs.specs.declared.jobs.Jobs.{Jobs}
-use Rattle.sched_jobs.specs.Shows.{HasJob, HasOthers, ShowsJobs, arrival_of, capacity_of, place_of}
+use Rattle.sched_jobs.specs.Shows.{HasJob, HasOtherJobs, HasOthers, ShowsJobs, arrival_of, capacity_of, place_of}
 use Rattle.sched_core.specs.declared.assigned.Assigned.{Assigned}
 use Rattle.sched_core.specs.declared.scheduler.Core.{Core}
 use Rattle.sched_core.specs.Shows.{ShowsCore, ShowsKept}
@@ -166,3 +166,20 @@ module _ (w : Sched) (core : Core) (k : ShowsCore w core) (jobs : Jobs) (job : S
       → IfSome o (λ slot. ShowsJobs (submit job w) jobs) → IfSome o (λ slot. HasJob core.jobs slot → ⊥)
   submit_free None arrived others shown = tt
   submit_free (Some slot) arrived others shown = submitted_free w job core.jobs jobs slot k.jobs shown arrived others
+
+  -- the slot was named by the caller
+  pub submit_named : (slot : ℕ) → IsSound core.blocks.dim job → place_of core.jobs slot ≡ Absent → HasOtherJobs core.jobs jobs slot → ShowsJobs (submit job w) jobs
+      → ShowsCore (submit job w) (record core { jobs = jobs })
+  submit_named slot sound absent others shown = record {
+    limit = k.limit;
+    machine = submit_shows w core.blocks k.machine job (subst (λ n. IsSound n job) (sym k.machine.dim) sound);
+    jobs = shown;
+    time = k.time;
+    patience = k.patience;
+    kept = kept_stays w.reserved core.jobs jobs core.reserved slots stays k.kept;
+  }
+    where
+      stays : (it : Assigned) → core.reserved ≡ Some it → StaysWaiting core.jobs jobs it.slot
+      stays it is wait waits =
+          let on = others it.slot (λ here. absent_waits (sym absent ∙ ap (place_of core.jobs) (sym here) ∙ waits)) in
+          ((wait, on.0 ∙ waits), on.1 (waiting_present (place_of core.jobs it.slot) wait waits))

@@ -11,3 +11,4 @@ pub use Rattle.sched_law.specs.Policy.{Decides, HasNone, IsHead, IsLatest, Prepa
 pub use Rattle.sched_law.specs.Law.{IsSound}
 pub use Rattle.sched_jobs.specs.Counts.{DoesRun, DoesWait, WaitsBefore}
 pub use Rattle.sched_jobs.specs.Sums.{asked}
+pub use Rattle.fixed_vec.specs.Spending.{HasWords, Spends}

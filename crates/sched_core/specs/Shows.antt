@@ -1,14 +1,14 @@
 -- When a scheduler shows a state.
-use Rattle.std.specs.Prelude.{◌≡◌, ℕ, ◌<◌, ◌≤◌, Option, Some, None}
+use Rattle.std.specs.Prelude.{◌≡◌, ℕ, ◌+◌, ◌<◌, ◌≤◌, Option, Some, None}
 use Rattle.cube_shape.specs.declared.limits.TheConstants.{MAX_BITMAP_DIM}
 use Rattle.sched_law.specs.declared.job.Place.{Place}
 use Rattle.sched_law.specs.declared.job.Place.TheVariants.{Waiting}
 use Rattle.sched_law.specs.declared.job.SchedWait.{SchedWait}
 use Rattle.sched_law.specs.declared.job.Reservation.{Reservation}
 use Rattle.sched_law.specs.State.{Sched}
-use Rattle.sched_blocks.specs.Shows.{Shows}
+use Rattle.sched_blocks.specs.Shows.{Shows, block_words}
 use Rattle.sched_jobs.specs.declared.jobs.Jobs.{Jobs}
-use Rattle.sched_jobs.specs.Shows.{HasGenerations, HasJob, HasOthers, IsRetired, ShowsJobs, arrival_of, capacity_of, generation_of, place_of, ticket_of}
+use Rattle.sched_jobs.specs.Shows.{HasGenerations, HasJob, HasOtherJobs, HasOthers, IsRetired, ShowsJobs, arrival_of, capacity_of, generation_of, job_words, place_of, ticket_of}
 use Rattle.sched_jobs.specs.Counts.{HasNoneUsed, IsNextUsed}
 use Rattle.sched_core.specs.declared.assigned.Assigned.{Assigned}
 use Rattle.sched_core.specs.declared.scheduler.Core.{Core}
@@ -61,6 +61,10 @@ KeepsGenerations old new = HasGenerations old.jobs new.jobs
 abbrev pub KeepsOthers : Core → Core → ℕ → Type 0
 KeepsOthers old new slot = HasOthers old.jobs new.jobs slot
 
+-- The other slots have the same jobs at the same places. What a free slot has as number may change.
+abbrev pub KeepsOtherJobs : Core → Core → ℕ → Type 0
+KeepsOtherJobs old new slot = HasOtherJobs old.jobs new.jobs slot
+
 -- Of the slots from one on, this is the first with a job that is not over.
 abbrev pub IsNextTaken : Core → ℕ → ℕ → Type 0
 IsNextTaken core from slot = IsNextUsed core.jobs from slot
@@ -95,3 +99,7 @@ pub record ShowsCore (w : Sched) (core : Core) : Type 0 where
   pub time : w.now ≡ core.time
   pub patience : w.patience ≡ core.patience
   pub kept : ShowsKept w.reserved core.jobs core.reserved
+
+-- How many words of 8 bytes a scheduler takes: of a machine of this dimension, for this many jobs.
+abbrev pub core_words : ℕ → ℕ → ℕ
+core_words dim capacity = block_words dim + job_words capacity

@@ -1,6 +1,6 @@
 //! The scheduler as a value, and the calls that start nothing.
 
-ghost use Rattle.std.specs.Prelude.{◌≡◌, ◌≢◌, ℕ, ◌+◌, ◌^◌, ◌<◌, ◌≤◌, ◌⊎◌, ◌↔◌, Some, IsTrue, IsFalse, IfOk, IfSome, IfNone};
+ghost use Rattle.std.specs.Prelude.{◌≡◌, ◌≢◌, ℕ, ◌+◌, ◌^◌, ◌<◌, ◌≤◌, ◌⊎◌, ◌↔◌, Some, IsOk, IsTrue, IsFalse, IfOk, OnOk, IfSome, IfNone};
 ghost use Rattle.cube_shape.specs.Region.{IsAligned};
 ghost use Rattle.cube_shape.specs.Falling.{IsHeld};
 ghost use Rattle.region_bits.specs.Count.{IsCount};
@@ -13,19 +13,21 @@ ghost use Rattle.sched_law.specs.Policy.{HasNone};
 ghost use Rattle.sched_law.specs.Law.{IsSound};
 ghost use Rattle.sched_jobs.specs.Counts.{DoesRun, DoesWait, WaitsBefore};
 ghost use Rattle.sched_jobs.specs.Sums.{asked};
-ghost use Rattle.sched_core.specs.Shows.{HasNoneTaken, HasSameJobs, IsNextTaken, IsSpent, IsTaken, KeepsGenerations, KeepsOthers, ShowsCore, dim_of, job_arrival, job_generation, job_place, job_ticket, slots_of, submitted_of, time_of};
+ghost use Rattle.fixed_vec.specs.Spending.{HasWords, Spends};
+ghost use Rattle.sched_core.specs.Shows.{HasNoneTaken, HasSameJobs, IsNextTaken, IsSpent, IsTaken, KeepsGenerations, KeepsOtherJobs, KeepsOthers, ShowsCore, core_words, dim_of, job_arrival, job_generation, job_place, job_ticket, slots_of, submitted_of, time_of};
 
 use crate::assigned::Assigned;
 use crate::small::{beside, without};
 use cube_shape::{MAX_BITMAP_DIM, Region};
+use fixed_vec::Store;
 use sched_blocks::Blocks;
 use sched_jobs::{CLASSES, Jobs, MAX_GENERATION, MAX_SLOTS};
 use sched_law::{Place, SchedJob};
-use std::alloc::{AllocError, Global};
+use std::alloc::AllocError;
 
 /// A scheduler of aligned blocks for one thread.
 ///
-/// Only `new` allocates memory.
+/// Only `new` takes memory.
 #[derive(Drop)]
 pub(crate) struct Core {
     pub(crate) blocks: Blocks,
@@ -36,10 +38,11 @@ pub(crate) struct Core {
 }
 
 impl Core {
-    /// Creates a scheduler of a machine of dimension `dim`, for this many jobs, without a job. If
-    /// `patience` times the machine has passed the head, a block is reserved for it in any case.
+    /// Creates a scheduler of a machine of dimension `dim`, for this many jobs, without a job, in
+    /// memory of a store. If `patience` times the machine has passed the head, a block is reserved
+    /// for it in any case.
     pub(crate) fn new(
-        alloc: Global,
+        store: &mut Store,
         dim: u32,
         capacity: usize,
         patience: u32,
@@ -48,9 +51,11 @@ impl Core {
         requires capacity { capacity ≤ MAX_SLOTS }
         ensures slots { IfOk result (λ made. slots_of made ≡ capacity) }
         ensures shows { IfOk result (ShowsCore (initial dim patience)) }
+        ensures spends { OnOk result (Spends (core_words dim capacity) store.old store.new) }
+        ensures enough { HasWords (core_words dim capacity) store.old → IsOk result }
     {
-        let blocks = Blocks::new(alloc, dim)?;
-        let jobs = Jobs::new(alloc, capacity)?;
+        let blocks = Blocks::new(store, dim)?;
+        let jobs = Jobs::new(store, capacity)?;
         Ok(Core {
             blocks,
             jobs,
@@ -236,6 +241,33 @@ impl Core {
             → IfSome result (λ slot. ShowsCore (submit job w) self.new) }
     {
         self.jobs.submit(job)
+    }
+
+    /// Adds a waiting job in a slot. Returns false only if the slot has a job or has had as many as
+    /// it may have; then nothing changes.
+    pub(crate) fn submit_into(&mut self, slot: u32, job: SchedJob) -> bool
+        requires shows { (w : Sched) × ShowsCore w self.old }
+        requires inside { slot < slots_of self.old }
+        requires sound { IsSound (dim_of self.old) job }
+        requires class { job.class < CLASSES }
+        requires next { submitted_of self.old < LAST }
+        ensures slots { slots_of self.new ≡ slots_of self.old }
+        ensures unchanged { IsFalse result → self.new ≡ self.old }
+        ensures refused { IsFalse result → IsTaken self.old slot ⊎ IsSpent self.old slot }
+        ensures free { IsTrue result → IsTaken self.old slot → ⊥ }
+        ensures unspent { IsTrue result → job_generation self.old slot < MAX_GENERATION }
+        ensures generation { IsTrue result → job_generation self.new slot
+            ≡ job_generation self.old slot + 1 }
+        ensures generations { (u : ℕ) → u ≢ slot
+            → job_generation self.new u ≡ job_generation self.old u }
+        ensures place { IsTrue result → job_place self.new slot
+            ≡ Waiting (record { job = job; passed = 0 }) }
+        ensures arrival { IsTrue result → job_arrival self.new slot ≡ submitted_of self.old }
+        ensures others { KeepsOtherJobs self.old self.new slot }
+        ensures shows { (w : Sched) → ShowsCore w self.old → IsTrue result
+            → ShowsCore (submit job w) self.new }
+    {
+        self.jobs.submit_into(slot, job)
     }
 
     /// Removes a waiting job. A block that was reserved for it is so no more.

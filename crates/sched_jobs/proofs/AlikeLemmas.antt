@@ -6,7 +6,7 @@ use Rattle.cube_shape.specs.declared.limits.TheConstants.{MAX_BITMAP_DIM}
 use Rattle.wait_queue.specs.declared.nodes.TheConstants.{MAX_SLOTS}
 use Rattle.wait_queue.specs.declared.nodes.QueueNode.{QueueNode as NodeData}
 use Rattle.wait_queue.specs.declared.queues.Queue.{Queue as QueueData}
-use Rattle.wait_queue.specs.Nodes.{key_of, node_at}
+use Rattle.wait_queue.specs.Nodes.{estimate_of, key_of, node_at}
 use Rattle.wait_queue.specs.Lists.{Has}
 use Rattle.wait_queue.specs.Queues.{IsQueue}
 use Rattle.sched_law.specs.State.{set}
@@ -125,11 +125,20 @@ fresh_node : NodeData
 fresh_node = record { key = 0; estimate = 0; fork = record { least = 0; left = 0; right = 0; size = 0; common = 0 } }
 
 -- the nodes at first
-pub key_unused : (nodes : List NodeData) (n u : ℕ) → nodes ≡ replicate n (record { key = 0; estimate = 0; fork = record { least = 0; left = 0; right = 0; size = 0; common = 0 } })
-    → key_of nodes u ≡ 0
+node_unused : (n u : ℕ) → node_at (replicate n fresh_node) u ≡ fresh_node
 unfolding fresh_node
-key_unused nodes n u are = ap (λ (xs : List NodeData). key_of xs u) are ∙ ap (λ (x : NodeData). x.key) (at (cases_lt u n))
+node_unused n u = at (cases_lt u n)
   where
     at : (u < n) ⊎ (n ≤ u) → node_at (replicate n fresh_node) u ≡ fresh_node
     at (inl within) = get_or-replicate n u fresh_node fresh_node within
     at (inr past) = get_or_past (replicate n fresh_node) u fresh_node (subst (λ (m : ℕ). m ≤ u) (sym (length-replicate n fresh_node)) past)
+
+pub key_unused : (nodes : List NodeData) (n u : ℕ) → nodes ≡ replicate n (record { key = 0; estimate = 0; fork = record { least = 0; left = 0; right = 0; size = 0; common = 0 } })
+    → key_of nodes u ≡ 0
+unfolding fresh_node
+key_unused nodes n u are = ap (λ (xs : List NodeData). key_of xs u) are ∙ ap (λ (x : NodeData). x.key) (node_unused n u)
+
+pub rank_unused : (nodes : List NodeData) (n u : ℕ) → nodes ≡ replicate n (record { key = 0; estimate = 0; fork = record { least = 0; left = 0; right = 0; size = 0; common = 0 } })
+    → estimate_of nodes u ≡ 0
+unfolding fresh_node
+rank_unused nodes n u are = ap (λ (xs : List NodeData). estimate_of xs u) are ∙ ap (λ (x : NodeData). x.estimate) (node_unused n u)

@@ -4,18 +4,19 @@ use Rattle.std.proofs.lemmas.Bool.{cases_eq, cases_lt}
 use Rattle.std.proofs.lemmas.List.{get_or_past}
 use Rattle.wait_queue.specs.declared.nodes.TheConstants.{MAX_SLOTS}
 use Rattle.wait_queue.specs.declared.nodes.QueueNode.{QueueNode as NodeData}
-use Rattle.wait_queue.specs.Nodes.{key_of}
+use Rattle.wait_queue.specs.Nodes.{estimate_of, key_of}
 use Rattle.sched_law.specs.declared.job.Place.{Place}
 use Rattle.sched_law.specs.declared.job.Place.TheVariants.{Absent}
 use Rattle.sched_law.specs.State.{set}
 use Rattle.sched_law.proofs.SetLemmas.{set_else, set_here}
 use Rattle.sched_jobs.specs.declared.slots.TheConstants.{MAX_GENERATION}
 use Rattle.sched_jobs.specs.declared.slots.Slot.{Slot}
-use Rattle.sched_jobs.specs.Slots.{IsPresent, generation_in, next_after, place_by, place_in, slot_in, unused}
+use Rattle.sched_jobs.specs.Slots.{IsPresent, before_of, generation_in, next_after, place_by, place_in, slot_in, unused}
 use Rattle.sched_jobs.specs.Shows.{AreFree, IsIn, ShowsSlots}
-use Rattle.sched_jobs.specs.Inner.Put.{HasKey, HasPut}
-use Rattle.sched_jobs.proofs.SlotLemmas.{absent_or_present, generation_else, generation_here, not_both, place_else, place_here}
-use Rattle.sched_jobs.proofs.FreeLemmas.{all_unused, first_inside, free_absent, free_kept, run, run_free, run_has}
+use Rattle.sched_jobs.specs.Inner.Put.{HasKey, HasLink, HasPut}
+use Rattle.sched_jobs.proofs.SlotLemmas.{absent_or_present, generation_else, generation_here, inside_table, not_both, place_else, place_here}
+use Rattle.sched_jobs.proofs.FreeLemmas.{all_unused, first_inside, free_absent, free_inside, free_kept, link_absent, link_inside, run, run_free, run_has}
+use Rattle.sched_jobs.proofs.LinkLemmas.{before_in, pushed, unlinked}
 
 module _ (f : ℕ → Place) (next first : ℕ) (slots new : List Slot) (nodes after : List NodeData) (at a c generation : ℕ) (p : Place)
     (k : ShowsSlots f next first slots nodes) (put : HasPut slots new at generation p) (key : HasKey nodes after at c) (mine : IsPresent p → c ≡ a)
@@ -135,8 +136,9 @@ module _ (f : ℕ → Place) (next first : ℕ) (slots : List Slot) (nodes : Lis
 -- the first free slot gets a new job
 pub submit_shows : (f : ℕ → Place) (next first : ℕ) (slots new : List Slot) (nodes after : List NodeData) (generation : ℕ) (p : Place) → ShowsSlots f next first slots nodes
     → first < length slots → IsPresent p → generation ≡ generation_in slots first + 1 → HasPut slots new first generation p → HasKey nodes after first next
+    → ((u : ℕ) → u ≢ first → estimate_of after u ≡ estimate_of nodes u)
     → ShowsSlots (set f next p) (next + 1) (next_after first (key_of nodes first)) new after
-submit_shows f next first slots new nodes after generation p k inside present one_more put key =
+submit_shows f next first slots new nodes after generation p k inside present one_more put key backs =
     let found = has_free slots nodes first k.list k.free inside in
     let absent : place_in slots first ≡ Absent = found.2.2 in
     let fewer : generation_in slots first < MAX_GENERATION = found.2.3 in
@@ -144,7 +146,7 @@ submit_shows f next first slots new nodes after generation p k inside present on
     (λ u is same. absurd (not_both (place_in slots u) (ap (place_in slots) same ∙ absent) is))
     (λ u other is one. (let less : key_of nodes u < next = k.before u is in absurd (omega (arith, less, one))))
     (next + 1) (next_after first (key_of nodes first)) found.0 (omega arith) (λ _. omega arith)
-    (free_kept slots new nodes after first next generation p (next_after first (key_of nodes first)) found.0 put key found.2.4 found.2.5)
+    (free_kept slots new nodes after first next generation p (next_after first (key_of nodes first)) found.0 put key backs found.2.4 found.2.5)
     (λ u within none. elim (cases_eq u first) [
       | inl same ↦ absurd (not_both (place_in new u) none (subst IsPresent (sym (place_here slots new first generation p put u same)) present))
       | inr other ↦
@@ -162,15 +164,16 @@ other_number f next first slots nodes at k present u other is one = other (k.onc
 -- a job has another place
 pub replace_shows : (f : ℕ → Place) (next first : ℕ) (slots new : List Slot) (nodes after : List NodeData) (at generation : ℕ) (p : Place) → ShowsSlots f next first slots nodes
     → IsPresent (place_in slots at) → IsPresent p → generation ≡ generation_in slots at → HasPut slots new at generation p → HasKey nodes after at (key_of nodes at)
+    → ((u : ℕ) → u ≢ at → estimate_of after u ≡ estimate_of nodes u)
     → ShowsSlots (set f (key_of nodes at) p) next first new after
-replace_shows f next first slots new nodes after at generation p k was present same_one put key =
+replace_shows f next first slots new nodes after at generation p k was present same_one put key backs =
     let c = key_of nodes at in
     let none : IsIn at k.list → ⊥ = λ has. not_both (place_in slots at) (free_absent slots nodes first k.list at k.free has) was in
     changed f next first slots new nodes after at c c generation p k put key (λ _. refl)
     (subst (λ (g : ℕ). g ≤ MAX_GENERATION) (sym same_one) (k.generations at)) (λ _. subst (λ (g : ℕ). 0 < g) (sym same_one) (k.used at was))
     (λ u is same. ap (key_of nodes) same)
     (other_number f next first slots nodes at k was) next first k.list (omega arith) (λ _. k.before at was)
-    (free_kept slots new nodes after at c generation p first k.list put key none k.free)
+    (free_kept slots new nodes after at c generation p first k.list put key backs none k.free)
     (λ u within absent. elim (cases_eq u at) [
       | inl same ↦ absurd (not_both (place_in new u) absent (subst IsPresent (sym (place_here slots new at generation p put u same)) present))
       | inr other ↦ all_else f next first slots new nodes at generation p k put u other within absent
@@ -188,7 +191,7 @@ retire_shows f next first slots new nodes at generation k was same_one last put 
     changed f next first slots new nodes nodes at c c generation Absent k put key (λ _. refl) few (λ is. absurd is)
     (λ u is same. ap (key_of nodes) same)
     (other_number f next first slots nodes at k was) next first k.list (omega arith) (λ is. absurd is)
-    (free_kept slots new nodes nodes at c generation Absent first k.list put key none k.free)
+    (free_kept slots new nodes nodes at c generation Absent first k.list put key (λ u other. refl) none k.free)
     (λ u within absent. elim (cases_eq u at) [
       | inl same ↦ inr (generation_here slots new at generation Absent put u same ∙ omega (arith, few, last))
       | inr other ↦ all_else f next first slots new nodes at generation Absent k put u other within absent
@@ -196,22 +199,18 @@ retire_shows f next first slots new nodes at generation k was same_one last put 
 
 -- a job leaves its slot, which is free now
 pub clear_shows : (f : ℕ → Place) (next first : ℕ) (slots new : List Slot) (nodes after : List NodeData) (at generation : ℕ) → ShowsSlots f next first slots nodes → at < length slots
-    → IsPresent (place_in slots at) → generation ≡ generation_in slots at → generation < MAX_GENERATION → HasPut slots new at generation Absent → HasKey nodes after at (first + 1)
-    → ShowsSlots (set f (key_of nodes at) Absent) next at new after
-clear_shows f next first slots new nodes after at generation k inside was same_one fewer put key =
+    → length nodes ≡ length slots → IsPresent (place_in slots at) → generation ≡ generation_in slots at → generation < MAX_GENERATION → HasPut slots new at generation Absent
+    → HasLink nodes after at first → ShowsSlots (set f (key_of nodes at) Absent) next at new after
+clear_shows f next first slots new nodes after at generation k inside count was same_one fewer put link =
     let none : IsIn at k.list → ⊥ = λ has. not_both (place_in slots at) (free_absent slots nodes first k.list at k.free has) was in
-    let kept : AreFree new after first k.list = free_kept slots new nodes after at (first + 1) generation Absent first k.list put key none k.free in
-    let to_next : next_after at (key_of after at) ≡ first = ap (next_after at) key.here ∙ after_more at first in
+    let still : HasKey nodes nodes at (key_of nodes at) = record { here = refl; others = λ u other. refl } in
+    let kept : AreFree new nodes first k.list = free_kept slots new nodes nodes at (key_of nodes at) generation Absent first k.list put still (λ u other. refl) none k.free in
+    let key : HasKey nodes after at (first + 1) = record { here = link.here; others = link.others } in
     changed f next first slots new nodes after at (key_of nodes at) (first + 1) generation Absent k put key (λ is. absurd is) (omega (arith, fewer)) (λ is. absurd is)
     (λ u is same. ap (key_of nodes) same)
-    (other_number f next first slots nodes at k was) next at (at ∷ k.list) (omega arith) (λ is. absurd is) (
-      refl,
-      subst (λ (n : ℕ). at < n) (sym put.len) inside,
-      place_here slots new at generation Absent put at refl,
-      subst (λ (g : ℕ). g < MAX_GENERATION) (sym (generation_here slots new at generation Absent put at refl)) fewer,
-      none,
-      subst (λ (x : ℕ). AreFree new after x k.list) (sym to_next) kept,
-    )
+    (other_number f next first slots nodes at k was) next at (at ∷ k.list) (omega arith) (λ is. absurd is)
+    (pushed new nodes after at first k.list (count ∙ sym put.len) (subst (λ (n : ℕ). at < n) (sym put.len) inside) (place_here slots new at generation Absent put at refl)
+    (subst (λ (g : ℕ). g < MAX_GENERATION) (sym (generation_here slots new at generation Absent put at refl)) fewer) none link kept)
     (λ u within absent. elim (cases_eq u at) [
       | inl same ↦ inl (inl same)
       | inr other ↦ elim (all_else f next first slots new nodes at generation Absent k put u other within absent) [
@@ -219,9 +218,71 @@ clear_shows f next first slots new nodes after at generation k inside was same_o
         | inr retired ↦ inr retired
       ]
     ])
-  where
-    after_more : (u v : ℕ) → next_after u (v + 1) ≡ v
-    after_more u v = grind arith
+
+-- a job is in no slot without one
+pub job_apart : (slots : List Slot) (v u : ℕ) → (v < length slots → place_in slots v ≡ Absent) → IsPresent (place_in slots u) → u ≢ v
+job_apart slots v u absent present same =
+    let within : v < length slots = subst (λ (x : ℕ). x < length slots) same (inside_table slots u present) in
+    not_both (place_in slots u) (ap (place_in slots) same ∙ absent within) present
+
+-- the list of free slots changes, and no number of a job
+pub relinked_shows : (f : ℕ → Place) (next first to : ℕ) (slots : List Slot) (nodes after : List NodeData) (list : List ℕ) → (k : ShowsSlots f next first slots nodes)
+    → ((u : ℕ) → IsPresent (place_in slots u) → key_of after u ≡ key_of nodes u) → AreFree slots after to list → ((u : ℕ) → IsIn u k.list → IsIn u list)
+    → ShowsSlots f next to slots after
+relinked_shows f next first to slots nodes after list k keys free more = record {
+  limit = k.limit;
+  generations = k.generations;
+  used = k.used;
+  holds = λ u present. ap f (keys u present) ∙ k.holds u present;
+  before = λ u present. subst (λ (x : ℕ). x < next) (sym (keys u present)) (k.before u present);
+  slot = λ a present. (let found = k.slot a present in (found.0, found.1, keys found.0 found.1 ∙ found.2));
+  once = λ u v pu pv one. k.once u v pu pv (sym (keys u pu) ∙ one ∙ keys v pv);
+  list = list;
+  free = free;
+  all = λ u within absent. elim (k.all u within absent) [ inl has ↦ inl (more u has) | inr retired ↦ inr retired ];
+}
+
+-- a free slot that is not the first
+module _ (f : ℕ → Place) (next first : ℕ) (slots : List Slot) (nodes : List NodeData) (slot : ℕ) (k : ShowsSlots f next first slots nodes) (inside : slot < length slots)
+    (absent : place_in slots slot ≡ Absent) (fewer : generation_in slots slot < MAX_GENERATION) where
+  pub free_listed : IsIn slot k.list
+  free_listed = elim (k.all slot inside absent) [ inl has ↦ has | inr retired ↦ absurd (omega (arith, fewer, retired)) ]
+
+  pub before_listed : slot ≢ first → IsIn (before_of slot (estimate_of nodes slot)) k.list
+  before_listed away = before_in slots nodes first k.list slot k.free free_listed away
+
+  pub before_inside : slot ≢ first → before_of slot (estimate_of nodes slot) < length slots
+  before_inside away = free_inside slots nodes first k.list (before_of slot (estimate_of nodes slot)) k.free (before_listed away)
+
+  pub before_absent : slot ≢ first → place_in slots (before_of slot (estimate_of nodes slot)) ≡ Absent
+  before_absent away = free_absent slots nodes first k.list (before_of slot (estimate_of nodes slot)) k.free (before_listed away)
+
+  pub after_within : next_after slot (key_of nodes slot) ≤ length slots
+  after_within = link_inside slots nodes first k.list slot k.free free_listed
+
+  pub after_absent : next_after slot (key_of nodes slot) < length slots → place_in slots (next_after slot (key_of nodes slot)) ≡ Absent
+  after_absent less = link_absent slots nodes first k.list slot k.free free_listed less
+
+  module _ (mid after : List NodeData) (before next_slot : ℕ) (away : slot ≢ first) (is_before : before ≡ before_of slot (estimate_of nodes slot))
+      (is_next : next_slot ≡ next_after slot (key_of nodes slot)) (unlink : HasLink nodes mid before next_slot) (link : HasLink mid after slot first) where
+    -- jobs keep their numbers and their ranks
+    pub forward_keys : (u : ℕ) → IsPresent (place_in slots u) → key_of after u ≡ key_of nodes u
+    forward_keys u present =
+        link.others u (job_apart slots slot u (λ _. absent) present)
+        ∙ unlink.others u (job_apart slots before u (λ _. ap (place_in slots) is_before ∙ before_absent away) present)
+
+    pub forward_ranks : (u : ℕ) → IsPresent (place_in slots u) → estimate_of after u ≡ estimate_of nodes u
+    forward_ranks u present =
+        link.backs u (job_apart slots first u (λ within. first_absent f next first slots nodes k within) present)
+        ∙ unlink.backs u (job_apart slots next_slot u (λ within. ap (place_in slots) is_next ∙ after_absent (subst (λ (x : ℕ). x < length slots) is_next within)) present)
+
+    -- it becomes the first
+    pub forward_shows : length nodes ≡ length slots → ShowsSlots f next slot slots after
+    forward_shows count =
+        let got = unlinked slots nodes mid slot before next_slot count unlink is_before is_next first k.list k.free free_listed away in
+        relinked_shows f next first slot slots nodes after (slot ∷ got.left) k forward_keys
+        (pushed slots mid after slot first got.left (unlink.len ∙ count) inside absent fewer got.none link got.free)
+        (λ u has. elim (cases_eq u slot) [ inl same ↦ inl same | inr other ↦ inr (got.others u other has) ])
 
 -- each slot of a full table has a job or is retired
 pub full_has : (f : ℕ → Place) (next first : ℕ) (slots : List Slot) (nodes : List NodeData) → ShowsSlots f next first slots nodes → length slots ≤ first → (u : ℕ) → u < length slots
@@ -237,8 +298,8 @@ full_has f next first slots nodes k full u within = elim (absent_or_present (pla
 
 -- a table without a job
 pub initial_shows : (slots : List Slot) (nodes : List NodeData) (n : ℕ) → n ≤ MAX_SLOTS → slots ≡ replicate n unused → length slots ≡ n
-    → ((u : ℕ) → key_of nodes u ≡ 0) → ShowsSlots (λ j. Absent) 0 0 slots nodes
-initial_shows slots nodes n limit is len links = record {
+    → ((u : ℕ) → key_of nodes u ≡ 0) → ((u : ℕ) → estimate_of nodes u ≡ 0) → ShowsSlots (λ j. Absent) 0 0 slots nodes
+initial_shows slots nodes n limit is len links backs = record {
   limit = omega (arith, limit, len);
   generations = λ u. (let none : generation_in slots u ≡ 0 = ap (λ (s : Slot). s.generation) (at_first u) in omega (arith, none));
   used = λ u present. absurd (never u present);
@@ -247,7 +308,7 @@ initial_shows slots nodes n limit is len links = record {
   slot = λ a present. absurd present;
   once = λ u v pu pv one. absurd (never u pu);
   list = run n 0;
-  free = run_free slots nodes n 0 (omega (arith, len)) absent (λ u. ap (λ (s : Slot). s.generation) (at_first u)) links;
+  free = run_free slots nodes n 0 (omega (arith, len)) absent (λ u. ap (λ (s : Slot). s.generation) (at_first u)) links backs;
   all = λ u within none. inl (run_has n 0 u (omega arith) (omega (arith, within, len)));
 }
   where

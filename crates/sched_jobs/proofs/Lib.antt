@@ -1,5 +1,6 @@
 pub mod SlotLemmas
 pub mod FreeLemmas
+pub mod LinkLemmas
 pub mod ChangeLemmas
 pub mod LineLemmas
 pub mod FrontLemmas

@@ -1,9 +1,9 @@
 -- The queues of the waiting jobs after a change of one slot.
-use Rattle.std.proofs.Common.{◌≡◌, ◌≢◌, ℕ, ◌<◌, ◌≤◌, inl, inr, List, [], ◌∷◌, Option, None, length, replicate, sym, ◌∙◌, ap, subst, arith}
+use Rattle.std.proofs.Common.{◌≡◌, ◌≢◌, ℕ, ◌<◌, ◌≤◌, inl, inr, List, Option, None, length, replicate, refl, sym, ◌∙◌, ap, subst, arith}
 use Rattle.std.proofs.lemmas.Bool.{cases_eq, cases_lt}
 use Rattle.std.proofs.lemmas.List.{get_or_past}
 use Rattle.wait_queue.specs.declared.nodes.QueueNode.{QueueNode as NodeData}
-use Rattle.wait_queue.specs.Nodes.{key_of}
+use Rattle.wait_queue.specs.Nodes.{estimate_of, key_of}
 use Rattle.cube_shape.specs.declared.limits.TheConstants.{MAX_BITMAP_DIM}
 use Rattle.sched_law.specs.declared.job.Place.{Place}
 use Rattle.sched_law.specs.declared.job.Place.TheVariants.{Absent, Waiting}
@@ -13,19 +13,20 @@ use Rattle.sched_law.proofs.SetLemmas.{absent_waits, set_else, set_here, wait_is
 use Rattle.sched_jobs.specs.declared.lines.TheConstants.{CLASSES}
 use Rattle.sched_jobs.specs.declared.slots.Slot.{Slot}
 use Rattle.sched_jobs.specs.declared.line_table.LineTable.{LineTable}
-use Rattle.sched_jobs.specs.Slots.{line_of, next_after, place_by, place_in, rank_of, slot_in, unused}
+use Rattle.sched_jobs.specs.Slots.{IsPresent, line_of, place_by, place_in, rank_of, slot_in, unused}
 use Rattle.sched_jobs.specs.Lines.{HasLines, rank_in, slots_of}
 use Rattle.sched_jobs.specs.Inner.Joins.{MayJoin}
-use Rattle.sched_jobs.specs.Shows.{AreFree, ShowsSlots, ShowsWaiting}
+use Rattle.sched_jobs.specs.Shows.{ShowsSlots, ShowsWaiting}
 use Rattle.sched_jobs.specs.Inner.Put.{HasPut}
 use Rattle.sched_jobs.proofs.SlotLemmas.{in_line_present, place_else, place_here}
-use Rattle.sched_jobs.proofs.FreeLemmas.{all_unused}
+use Rattle.sched_jobs.proofs.FreeLemmas.{all_unused, free_stays}
+use Rattle.sched_jobs.proofs.ChangeLemmas.{first_absent, relinked_shows}
 use Rattle.sched_jobs.proofs.AlikeLemmas.{shown_alike}
 
 -- one slot has another place, and the queues follow
 pub waiting_changed : (slots new : List Slot) (lines after : LineTable) (at generation : ℕ) (p : Place) → ShowsWaiting slots lines → HasPut slots new at generation p
     → slots_of after ≡ slots_of lines → HasLines after (set (λ u. line_of (place_in slots u)) at (line_of p))
-    → ((u : ℕ) → u ≢ at → rank_in after u ≡ rank_in lines u)
+    → ((u : ℕ) → u ≢ at → IsPresent (place_in slots u) → rank_in after u ≡ rank_in lines u)
     → ((wait : SchedWait) → p ≡ Waiting wait → (rank_in after at ≡ rank_of wait.job.estimate) × (wait.job.class < CLASSES) × (wait.job.dim ≤ MAX_BITMAP_DIM))
     → ShowsWaiting new after
 waiting_changed slots new lines after at generation p k put count shown ranks own = record {
@@ -33,7 +34,7 @@ waiting_changed slots new lines after at generation p k put count shown ranks ow
   count = count ∙ k.count ∙ sym put.len;
   rank = λ u wait waits. elim (cases_eq u at) [
     | inl one ↦ ap (rank_in after) one ∙ (own wait (mine u one wait waits)).0
-    | inr other ↦ ranks u other ∙ k.rank u wait (old u other wait waits)
+    | inr other ↦ ranks u other (subst IsPresent (sym (old u other wait waits)) tt) ∙ k.rank u wait (old u other wait waits)
   ];
   class = λ u wait waits. elim (cases_eq u at) [ inl one ↦ (own wait (mine u one wait waits)).1 | inr other ↦ k.class u wait (old u other wait waits) ];
   dim = λ u wait waits. elim (cases_eq u at) [ inl one ↦ (own wait (mine u one wait waits)).2 | inr other ↦ k.dim u wait (old u other wait waits) ];
@@ -91,30 +92,31 @@ own_of rank mine is within low wait one =
     let same : mine ≡ wait = wait_is one in
     subst (λ (x : SchedWait). (rank ≡ rank_of x.job.estimate) × (x.job.class < CLASSES) × (x.job.dim ≤ MAX_BITMAP_DIM)) same (is, within, low)
 
--- a table whose keys stay
-pub free_alike : (slots : List Slot) (nodes after : List NodeData) (first : ℕ) (list : List ℕ) → ((u : ℕ) → key_of after u ≡ key_of nodes u) → AreFree slots nodes first list
-    → AreFree slots after first list
-free_alike slots nodes after first [] keys is = is
-free_alike slots nodes after first (u ∷ rest) keys is = (
-  is.0,
-  is.1,
-  is.2,
-  is.3,
-  is.4,
-  subst (λ (x : ℕ). AreFree slots after (next_after u x) rest) (sym (keys u)) (free_alike slots nodes after (next_after u (key_of nodes u)) rest keys is.5),
-)
-
+-- a table whose keys and ranks stay
 pub slots_alike : (f : ℕ → Place) (next first : ℕ) (slots : List Slot) (nodes after : List NodeData) → ((u : ℕ) → key_of after u ≡ key_of nodes u)
-    → ShowsSlots f next first slots nodes → ShowsSlots f next first slots after
-slots_alike f next first slots nodes after keys k = record {
-  limit = k.limit;
-  generations = k.generations;
-  used = k.used;
-  holds = λ u present. ap f (keys u) ∙ k.holds u present;
-  before = λ u present. subst (λ (x : ℕ). x < next) (sym (keys u)) (k.before u present);
-  slot = λ a present. (let found = k.slot a present in (found.0, found.1, keys found.0 ∙ found.2));
-  once = λ u v pu pv one. k.once u v pu pv (sym (keys u) ∙ one ∙ keys v);
-  list = k.list;
-  free = free_alike slots nodes after first k.list keys k.free;
-  all = k.all;
+    → ((u : ℕ) → estimate_of after u ≡ estimate_of nodes u) → ShowsSlots f next first slots nodes → ShowsSlots f next first slots after
+slots_alike f next first slots nodes after keys ranks k =
+    relinked_shows f next first first slots nodes after k.list k (λ u _. keys u)
+    (free_stays slots slots nodes after refl first k.list (λ u has. (refl, refl, keys u)) (λ u has _. ranks u) k.free) (λ u has. has)
+
+-- the queues after a change of free slots
+pub waiting_relinked : (slots : List Slot) (lines after : LineTable) → ShowsWaiting slots lines → slots_of after ≡ slots_of lines
+    → HasLines after (λ u. line_of (place_in slots u)) → ((u : ℕ) → IsPresent (place_in slots u) → rank_in after u ≡ rank_in lines u) → ShowsWaiting slots after
+waiting_relinked slots lines after k count shown ranks = record {
+  shown = shown;
+  count = count ∙ k.count;
+  rank = λ u wait waits. ranks u (subst IsPresent (sym waits) tt) ∙ k.rank u wait waits;
+  class = k.class;
+  dim = k.dim;
 }
+
+-- the first free slot is in no line
+pub free_line : (f : ℕ → Place) (next first : ℕ) (slots : List Slot) (nodes : List NodeData) → ShowsSlots f next first slots nodes → first < length slots
+    → line_of (place_in slots first) ≡ None
+free_line f next first slots nodes k inside = ap line_of (first_absent f next first slots nodes k inside)
+
+pub set_none : (line : ℕ → Option ℕ) (at u : ℕ) → line u ≡ None → set line at None u ≡ None
+set_none line at u none = elim (cases_eq u at) [
+  | inl one ↦ ap (set line at None) one ∙ set_here line at None
+  | inr other ↦ set_else line at None u other ∙ none
+]

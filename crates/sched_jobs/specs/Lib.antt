@@ -7,3 +7,4 @@ pub mod Counts
 pub mod Inner
 pub use Rattle.sched_law.specs.State.{Sched, cancel, end_after, finish, initial, pass, start, submit}
 pub use Rattle.region_bits.specs.Count.{IsCount}
+pub use Rattle.fixed_vec.specs.Spending.{HasWords, Spends}

@@ -51,10 +51,14 @@ HasLines lines line = ShowsLines lines.nodes.items lines.queues.items lines.used
 abbrev pub key_in : LineTable → ℕ → ℕ
 key_in lines u = key_of lines.nodes.items u
 
--- The rank of the estimate of a slot's job.
+-- The rank of the estimate of a slot's job, or, if it is free, its back link.
 abbrev pub rank_in : LineTable → ℕ → ℕ
 rank_in lines u = estimate_of lines.nodes.items u
 
 -- The number of slots.
 abbrev pub slots_of : LineTable → ℕ
 slots_of lines = length lines.nodes.items
+
+-- How many words of 8 bytes the queues of this many slots take: the nodes, the queues, the flags.
+abbrev pub table_words : ℕ → ℕ
+table_words capacity = 5 * capacity + (CLASSES * (MAX_BITMAP_DIM + 1) + 1)

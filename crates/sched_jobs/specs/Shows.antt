@@ -8,16 +8,16 @@ use Rattle.sched_law.specs.Policy.{Precedes}
 use Rattle.sched_law.specs.declared.job.SchedWait.{SchedWait}
 use Rattle.wait_queue.specs.declared.nodes.TheConstants.{MAX_SLOTS}
 use Rattle.wait_queue.specs.declared.nodes.QueueNode.{QueueNode as NodeData}
-use Rattle.wait_queue.specs.Nodes.{key_of}
+use Rattle.wait_queue.specs.Nodes.{estimate_of, key_of}
 use Rattle.sched_jobs.specs.declared.lines.TheConstants.{CLASSES}
 use Rattle.sched_jobs.specs.declared.slots.TheConstants.{MAX_GENERATION}
 use Rattle.sched_jobs.specs.declared.slots.Slot.{Slot}
 use Rattle.sched_jobs.specs.declared.line_table.LineTable.{LineTable}
 use Rattle.sched_jobs.specs.declared.jobs.Jobs.{Jobs}
-use Rattle.sched_jobs.specs.Lines.{HasLines, key_in, rank_in, slots_of}
+use Rattle.sched_jobs.specs.Lines.{HasLines, key_in, rank_in, slots_of, table_words}
 use Rattle.sched_jobs.specs.Select.{IsWanted}
 use Rattle.sched_jobs.specs.Sums.{ShowsRunning}
-use Rattle.sched_jobs.specs.Slots.{IsPresent, generation_in, line_of, next_after, place_in, rank_of}
+use Rattle.sched_jobs.specs.Slots.{IsPresent, before_of, generation_in, line_of, next_after, place_in, rank_of}
 
 -- How many jobs a table may have.
 abbrev pub capacity_of : Jobs → ℕ
@@ -52,6 +52,12 @@ abbrev pub HasOthers : Jobs → Jobs → ℕ → Type 0
 HasOthers old new slot =
     (u : ℕ) → u ≢ slot → (place_of new u ≡ place_of old u) × (arrival_of new u ≡ arrival_of old u)
 
+-- The other slots have the same jobs at the same places. What a free slot has as number may change.
+abbrev pub HasOtherJobs : Jobs → Jobs → ℕ → Type 0
+HasOtherJobs old new slot =
+    (u : ℕ) → u ≢ slot → (place_of new u ≡ place_of old u)
+    × (HasJob old u → arrival_of new u ≡ arrival_of old u)
+
 -- Each slot has had as many jobs as before.
 abbrev pub HasGenerations : Jobs → Jobs → Type 0
 HasGenerations old new = (u : ℕ) → generation_of new u ≡ generation_of old u
@@ -61,14 +67,19 @@ abbrev pub IsIn : ℕ → List ℕ → Type 0
 IsIn u [] = ⊥
 IsIn u (first ∷ rest) = (u ≡ first) ⊎ IsIn u rest
 
--- Free slots from `first` on are these, each once. The last one is followed by the number of slots.
--- None is retired.
+-- The first of these slots, if there is one, is linked back to another.
+abbrev pub HasBack : List NodeData → ℕ → List ℕ → Type 0
+HasBack nodes u [] = Unit {0}
+HasBack nodes u (v ∷ rest) = before_of v (estimate_of nodes v) ≡ u
+
+-- Free slots from `first` on are these, each once, and each is linked back to the one before. The
+-- last one is followed by the number of slots. None is retired.
 abbrev pub AreFree : List Slot → List NodeData → ℕ → List ℕ → Type 0
 AreFree slots nodes first [] = first ≡ length slots
 AreFree slots nodes first (u ∷ rest) =
     (first ≡ u) × (u < length slots) × (place_in slots u ≡ Absent)
     × (generation_in slots u < MAX_GENERATION) × (IsIn u rest → ⊥)
-    × AreFree slots nodes (next_after u (key_of nodes u)) rest
+    × AreFree slots nodes (next_after u (key_of nodes u)) rest × HasBack nodes u rest
 
 -- Each job that is not over has one slot, with its place, and its number is the key. All other
 -- slots are free or retired.
@@ -119,3 +130,7 @@ pub record IsFirstWaiting (any most : Option ℕ) (limit : ℕ) (w : Sched) (job
 abbrev pub HasNoneWaiting : Option ℕ → Option ℕ → ℕ → Sched → Type 0
 HasNoneWaiting any most limit w =
     (i : ℕ) (other : SchedWait) → Waits w i other → IsWanted any most limit other.job → ⊥
+
+-- How many words of 8 bytes a table for this many jobs takes.
+abbrev pub job_words : ℕ → ℕ
+job_words capacity = 7 * capacity + table_words capacity

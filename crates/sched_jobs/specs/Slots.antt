@@ -45,6 +45,10 @@ generation_in slots u = (slot_in slots u).generation
 abbrev pub next_after : ℕ → ℕ → ℕ
 next_after u link = if link == 0 then u + 1 else link - 1
 
+-- The free slot before a free one: the slot before, if the back link is 0, else one less than it.
+abbrev pub before_of : ℕ → ℕ → ℕ
+before_of u back = if back == 0 then u - 1 else back - 1
+
 -- The job is not over.
 abbrev pub IsPresent : Place → Type 0
 IsPresent Absent = ⊥

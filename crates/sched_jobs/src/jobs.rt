@@ -1,6 +1,6 @@
 //! The jobs of a scheduler as a value.
 
-ghost use Rattle.std.specs.Prelude.{◌≡◌, ◌≢◌, ℕ, ◌+◌, ◌^◌, ◌<◌, ◌≤◌, ◌⊎◌, Option, min, Some, None, IfOk, IfSome, IfNone, length};
+ghost use Rattle.std.specs.Prelude.{◌≡◌, ◌≢◌, ℕ, ◌+◌, ◌^◌, ◌<◌, ◌≤◌, ◌⊎◌, Option, min, Some, None, IsOk, IsTrue, IsFalse, IfOk, OnOk, IfSome, IfNone, length};
 ghost use Rattle.sched_law.specs.declared.job.TheConstants.{NEVER as LAST};
 ghost use Rattle.sched_law.specs.declared.job.Place.{Place as PlaceData};
 ghost use Rattle.sched_law.specs.declared.job.Place.TheVariants.{Absent, Waiting, Running};
@@ -12,7 +12,8 @@ ghost use Rattle.sched_jobs.specs.Counts.{DoesRun, DoesWait, HasNoneUsed, IsNext
 ghost use Rattle.sched_jobs.specs.Sums.{asked};
 ghost use Rattle.sched_jobs.specs.Lines.{HasLines, rank_in, slots_of};
 ghost use Rattle.sched_jobs.specs.Inner.Put.{HasPut};
-ghost use Rattle.sched_jobs.specs.Shows.{HasGenerations, HasJob, HasNoneWaiting, HasOthers, IsFirstWaiting, IsRetired, ShowsJobs, ShowsSlots, arrival_of, capacity_of, generation_of, place_of, ticket_of};
+ghost use Rattle.fixed_vec.specs.Spending.{HasWords, Spends};
+ghost use Rattle.sched_jobs.specs.Shows.{HasGenerations, HasJob, HasNoneWaiting, HasOtherJobs, HasOthers, IsFirstWaiting, IsRetired, ShowsJobs, ShowsSlots, arrival_of, capacity_of, generation_of, job_words, place_of, ticket_of};
 
 use crate::line_table::LineTable;
 use crate::lines::{CLASSES, DIMS, LINES};
@@ -21,13 +22,14 @@ use crate::slots::{
     MAX_GENERATION, Slot, generation_at, is_present, next_present, place_at, processors_of, put,
 };
 use cube_shape::{MAX_BITMAP_DIM, Region};
+use fixed_vec::{FixedVec, Store};
 use sched_law::{Place, SchedJob, SchedRun, SchedWait};
-use std::alloc::{AllocError, Global};
+use std::alloc::AllocError;
 use wait_queue::MAX_SLOTS;
 
 /// The jobs of a scheduler for one thread.
 ///
-/// Only `new` allocates memory.
+/// Only `new` takes memory.
 #[derive(Drop)]
 pub struct Jobs {
     next: u64,
@@ -36,20 +38,22 @@ pub struct Jobs {
     running: u64,
     /// How many processors the running jobs use.
     asked: u64,
-    slots: Vec<Slot>,
+    slots: FixedVec<Slot>,
     lines: LineTable,
 }
 
 impl Jobs {
-    /// Creates a table for this many jobs, without a job.
-    pub fn new(alloc: Global, capacity: usize) -> Result<Self, AllocError>
+    /// Creates a table for this many jobs, without a job, in memory of a store.
+    pub fn new(store: &mut Store, capacity: usize) -> Result<Self, AllocError>
         requires { capacity ≤ MAX_SLOTS }
         ensures capacity { IfOk result (λ made. capacity_of made ≡ capacity) }
         ensures shows { IfOk result (λ made. (n patience : ℕ)
             → ShowsJobs (initial n patience) made) }
+        ensures spends { OnOk result (Spends (job_words capacity) store.old store.new) }
+        ensures enough { HasWords (job_words capacity) store.old → IsOk result }
     {
-        let slots = vec![in alloc; Slot::UNUSED; capacity]?;
-        let lines = LineTable::new(alloc, capacity)?;
+        let slots = store.filled(Slot::UNUSED, capacity, 7 * capacity)?;
+        let lines = LineTable::new(store, capacity)?;
         Ok(Jobs {
             next: 0,
             free: 0,
@@ -227,13 +231,97 @@ impl Jobs {
         if slot as usize >= self.slots.len() {
             return None;
         }
+        self.take(slot, job);
+        Some(slot)
+    }
+
+    /// Adds a waiting job in a slot. Returns false only if the slot has a job or is retired; then
+    /// nothing changes.
+    pub fn submit_into(&mut self, slot: u32, job: SchedJob) -> bool
+        requires inside { slot < capacity_of self.old }
+        requires next { self.old.next < LAST }
+        requires class { job.class < CLASSES }
+        requires dim { job.dim ≤ MAX_BITMAP_DIM }
+        requires shows { (w : Sched) × ShowsJobs w self.old }
+        ensures capacity { capacity_of self.new ≡ capacity_of self.old }
+        ensures unchanged { IsFalse result → self.new ≡ self.old }
+        ensures refused { IsFalse result → HasJob self.old slot ⊎ IsRetired self.old slot }
+        ensures free { IsTrue result → (place_of self.old slot ≡ Absent)
+            × (generation_of self.old slot < MAX_GENERATION) }
+        ensures next { IsTrue result → self.new.next ≡ self.old.next + 1 }
+        ensures place { IsTrue result → place_of self.new slot
+            ≡ Waiting (record { job = job; passed = 0 }) }
+        ensures arrival { IsTrue result → arrival_of self.new slot ≡ self.old.next }
+        ensures generation { IsTrue result → generation_of self.new slot
+            ≡ generation_of self.old slot + 1 }
+        ensures generations { (u : ℕ) → u ≢ slot
+            → generation_of self.new u ≡ generation_of self.old u }
+        ensures others { HasOtherJobs self.old self.new slot }
+        ensures shows { (w : Sched) → ShowsJobs w self.old
+            → IsTrue result → ShowsJobs (submit job w) self.new }
+    {
+        if is_present(&self.slots, slot) {
+            return false;
+        }
+        if generation_at(&self.slots, slot) >= MAX_GENERATION {
+            return false;
+        }
+        self.bring_forward(slot);
+        self.take(slot, job);
+        true
+    }
+
+    // Makes a free slot the first one.
+    fn bring_forward(&mut self, slot: u32)
+        requires inside { slot < capacity_of self.old }
+        requires free { place_of self.old slot ≡ Absent }
+        requires few { generation_of self.old slot < MAX_GENERATION }
+        requires shows { (w : Sched) × ShowsJobs w self.old }
+        ensures capacity { capacity_of self.new ≡ capacity_of self.old }
+        ensures next { self.new.next ≡ self.old.next }
+        ensures first { self.new.free ≡ slot }
+        ensures places { (u : ℕ) → place_of self.new u ≡ place_of self.old u }
+        ensures generations { HasGenerations self.old self.new }
+        ensures arrivals { (u : ℕ) → HasJob self.old u
+            → arrival_of self.new u ≡ arrival_of self.old u }
+        ensures shows { (w : Sched) → ShowsJobs w self.old → ShowsJobs w self.new }
+    {
+        if slot == self.free {
+            return;
+        }
+        let before = self.lines.free_before(slot);
+        let after = self.lines.free_after(slot);
+        self.lines.link(before, after);
+        self.lines.link(slot, self.free);
+        self.free = slot;
+    }
+
+    // Adds a waiting job in the first free slot.
+    fn take(&mut self, slot: u32, job: SchedJob)
+        requires first { slot ≡ self.old.free }
+        requires inside { slot < capacity_of self.old }
+        requires next { self.old.next < LAST }
+        requires class { job.class < CLASSES }
+        requires dim { job.dim ≤ MAX_BITMAP_DIM }
+        requires shows { (w : Sched) × ShowsJobs w self.old }
+        ensures capacity { capacity_of self.new ≡ capacity_of self.old }
+        ensures free { (place_of self.old slot ≡ Absent)
+            × (generation_of self.old slot < MAX_GENERATION) }
+        ensures next { self.new.next ≡ self.old.next + 1 }
+        ensures place { place_of self.new slot ≡ Waiting (record { job = job; passed = 0 }) }
+        ensures arrival { arrival_of self.new slot ≡ self.old.next }
+        ensures generation { generation_of self.new slot ≡ generation_of self.old slot + 1 }
+        ensures generations { (u : ℕ) → u ≢ slot
+            → generation_of self.new u ≡ generation_of self.old u }
+        ensures others { HasOthers self.old self.new slot }
+        ensures shows { (w : Sched) → ShowsJobs w self.old → ShowsJobs (submit job w) self.new }
+    {
         let generation = generation_at(&self.slots, slot) + 1;
         self.free = self.lines.free_after(slot);
         self.lines.join(&job, slot, self.next);
         let wait = SchedWait { job, passed: 0 };
         put(&mut self.slots, slot, generation, Place::Waiting(wait));
         self.next += 1;
-        Some(slot)
     }
 
     /// Removes a waiting job.
@@ -298,8 +386,10 @@ impl Jobs {
             self.new.slots.items self.new.lines.nodes.items }
         ensures count { slots_of self.new.lines ≡ slots_of self.old.lines }
         ensures lines { (line : ℕ → Option ℕ) → HasLines self.old.lines line → line slot ≡ None
+            → (self.old.free < capacity_of self.old → line self.old.free ≡ None)
             → HasLines self.new.lines line }
-        ensures ranks { (u : ℕ) → rank_in self.new.lines u ≡ rank_in self.old.lines u }
+        ensures ranks { (u : ℕ) → u ≢ slot → HasJob self.old u
+            → rank_in self.new.lines u ≡ rank_in self.old.lines u }
     {
         let generation = generation_at(&self.slots, slot);
         put(&mut self.slots, slot, generation, Place::Absent);
@@ -307,7 +397,7 @@ impl Jobs {
         if is_last {
             return;
         }
-        self.lines.set_key(slot, self.free as u64 + 1);
+        self.lines.link(slot, self.free);
         self.free = slot;
     }
 

@@ -1,29 +1,34 @@
 //! The queues of the waiting jobs of a table.
 
-ghost use Rattle.std.specs.Prelude.{◌≡◌, ◌≢◌, ℕ, ◌+◌, ◌*◌, ◌^◌, ◌<◌, ◌≤◌, Bool, Option, Some, None, IfOk, length};
+ghost use Rattle.std.specs.Prelude.{◌≡◌, ◌≢◌, ℕ, ◌+◌, ◌*◌, ◌^◌, ◌<◌, ◌≤◌, Bool, Option, Some, None, IsOk, IfOk, OnOk, length};
 ghost use Rattle.sched_law.specs.State.{set};
-ghost use Rattle.sched_jobs.specs.Slots.{line_at, next_after, rank_of};
-ghost use Rattle.sched_jobs.specs.Lines.{HasLines, flag_in, key_in, rank_in, slots_of};
+ghost use Rattle.sched_jobs.specs.Slots.{before_of, line_at, next_after, rank_of};
+ghost use Rattle.fixed_vec.specs.Spending.{HasWords, Spends};
+ghost use Rattle.sched_jobs.specs.Lines.{HasLines, flag_in, key_in, rank_in, slots_of, table_words};
 ghost use Rattle.sched_jobs.specs.Inner.Joins.{MayJoin};
+ghost use Rattle.sched_jobs.specs.Inner.Put.{HasLink};
 ghost use Rattle.region_bits.specs.Count.{IsCount};
 ghost use Rattle.sched_jobs.specs.Inner.Numbers.{HasKeyFrom, HasNumbers};
 ghost use Rattle.sched_jobs.specs.Inner.Search.{IsChosen};
 
 use crate::counts::total;
-use crate::lines::{CLASSES, DIMS, LINES, is_class_empty, join_line, key_at, leave_line, put_key};
+use crate::lines::{
+    CLASSES, DIMS, LINES, is_class_empty, join_line, key_at, leave_line, put_key, put_rank, rank_at,
+};
 use crate::search::{Wanted, first_of_all};
 use cube_shape::MAX_BITMAP_DIM;
+use fixed_vec::{FixedVec, Store};
 use sched_law::{NEVER, SchedJob};
-use std::alloc::{AllocError, Global};
+use std::alloc::AllocError;
 use wait_queue::{MAX_SLOTS, Queue, QueueNode};
 
 /// A queue for each class and dimension, over one node for each slot.
 #[derive(Drop)]
 pub struct LineTable {
-    pub(crate) nodes: Vec<QueueNode>,
-    pub(crate) queues: Vec<Queue>,
+    pub(crate) nodes: FixedVec<QueueNode>,
+    pub(crate) queues: FixedVec<Queue>,
     /// Whether a class may have waiting jobs.
-    pub(crate) used: Vec<bool>,
+    pub(crate) used: FixedVec<bool>,
 }
 
 // Returns the rank of an estimate: the largest number if it is not known.
@@ -55,16 +60,19 @@ fn set_flag(used: &mut [bool], class: usize, to: bool)
 }
 
 impl LineTable {
-    /// Creates empty queues for this many slots.
-    pub(crate) fn new(alloc: Global, capacity: usize) -> Result<Self, AllocError>
+    /// Creates empty queues for this many slots, in memory of a store.
+    pub(crate) fn new(store: &mut Store, capacity: usize) -> Result<Self, AllocError>
         requires { capacity ≤ MAX_SLOTS }
         ensures slots { IfOk result (λ made. slots_of made ≡ capacity) }
         ensures keys { IfOk result (λ made. (u : ℕ) → key_in made u ≡ 0) }
+        ensures ranks { IfOk result (λ made. (u : ℕ) → rank_in made u ≡ 0) }
         ensures lines { IfOk result (λ made. HasLines made (λ u. None)) }
+        ensures spends { OnOk result (Spends (table_words capacity) store.old store.new) }
+        ensures enough { HasWords (table_words capacity) store.old → IsOk result }
     {
-        let nodes = vec![in alloc; QueueNode::UNUSED; capacity]?;
-        let queues = vec![in alloc; Queue::new(); LINES]?;
-        let used = vec![in alloc; false; CLASSES as usize]?;
+        let nodes = store.filled(QueueNode::UNUSED, capacity, 5 * capacity)?;
+        let queues = store.filled(Queue::new(), LINES, LINES)?;
+        let used = store.filled(false, CLASSES as usize, 1)?;
         Ok(LineTable {
             nodes,
             queues,
@@ -92,6 +100,19 @@ impl LineTable {
             return slot + 1;
         }
         (link - 1) as u32
+    }
+
+    /// Returns the free slot before a free one that is not the first.
+    pub(crate) fn free_before(&self, slot: u32) -> u32
+        requires slot { slot < slots_of self.now }
+        requires before { before_of slot (rank_in self.now slot) ≤ MAX_SLOTS }
+        ensures { result ≡ before_of slot (rank_in self.now slot) }
+    {
+        let back = rank_at(&self.nodes, slot);
+        if back == 0 {
+            return slot.saturating_sub(1);
+        }
+        (back - 1) as u32
     }
 
     /// Returns the slot that is wanted, of the first class, with the least key there.
@@ -170,5 +191,32 @@ impl LineTable {
         ensures ranks { (u : ℕ) → rank_in self.new u ≡ rank_in self.old u }
     {
         put_key(&mut self.nodes, slot, key);
+    }
+
+    /// Writes the rank of a slot that is in no line.
+    pub(crate) fn set_rank(&mut self, slot: u32, rank: u64)
+        requires { slot < slots_of self.old }
+        ensures lines { (line : ℕ → Option ℕ) → HasLines self.old line → line slot ≡ None
+            → HasLines self.new line }
+        ensures slots { slots_of self.new ≡ slots_of self.old }
+        ensures rank { rank_in self.new slot ≡ rank }
+        ensures ranks { (u : ℕ) → u ≢ slot → rank_in self.new u ≡ rank_in self.old u }
+        ensures keys { (u : ℕ) → key_in self.new u ≡ key_in self.old u }
+    {
+        put_rank(&mut self.nodes, slot, rank);
+    }
+
+    /// Links a free slot to the next one, and this one, if it is one of the table, back to it.
+    pub(crate) fn link(&mut self, slot: u32, next: u32)
+        requires { slot < slots_of self.old }
+        ensures lines { (line : ℕ → Option ℕ) → HasLines self.old line → line slot ≡ None
+            → (next < slots_of self.old → line next ≡ None) → HasLines self.new line }
+        ensures link { HasLink self.old.nodes.items self.new.nodes.items slot next }
+    {
+        self.set_key(slot, next as u64 + 1);
+        if next as usize >= self.nodes.len() {
+            return;
+        }
+        self.set_rank(next, slot as u64 + 1);
     }
 }

@@ -44,6 +44,27 @@ pub(crate) fn put_key(nodes: &mut [QueueNode], slot: u32, key: u64)
     queues_rest_on_their_slots();
 }
 
+/// Returns the rank of a slot.
+pub(crate) fn rank_at(nodes: &[QueueNode], slot: u32) -> u64
+    requires { slot < length nodes.now }
+    ensures { result ≡ estimate_of nodes.now slot }
+{
+    nodes[slot as usize].estimate
+}
+
+/// Writes the rank of a slot that is in no line.
+pub(crate) fn put_rank(nodes: &mut [QueueNode], slot: u32, rank: u64)
+    requires { slot < length nodes.old }
+    ensures lines { (queues : List QueueData) (line : ℕ → Option ℕ)
+        → AreLines nodes.old queues line → line slot ≡ None → AreLines nodes.new queues line }
+    ensures rank { estimate_of nodes.new slot ≡ rank }
+    ensures ranks { (u : ℕ) → u ≢ slot → estimate_of nodes.new u ≡ estimate_of nodes.old u }
+    ensures keys { (u : ℕ) → key_of nodes.new u ≡ key_of nodes.old u }
+{
+    nodes[slot as usize].estimate = rank;
+    queues_rest_on_their_slots();
+}
+
 /// Appends a slot to a queue, with a key above all keys of this queue.
 pub(crate) fn join_line(
     nodes: &mut [QueueNode],

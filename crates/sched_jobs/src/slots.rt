@@ -8,6 +8,7 @@ ghost use Rattle.sched_jobs.specs.Inner.Put.{HasPut, slot_for};
 ghost use Rattle.sched_jobs.specs.Counts.{HasNoneIn, IsNextIn};
 
 use cube_shape::Region;
+use fixed_vec::FixedVec;
 use sched_law::{Place, SchedJob, SchedRun, SchedWait};
 use wait_queue::{MAX_SLOTS, QueueNode};
 
@@ -170,7 +171,7 @@ fn put_in(slots: &mut [Slot], slot: u32, generation: u64, place: Place)
 }
 
 /// Writes a slot.
-pub(crate) fn put(slots: &mut Vec<Slot>, slot: u32, generation: u64, place: Place)
+pub(crate) fn put(slots: &mut FixedVec<Slot>, slot: u32, generation: u64, place: Place)
     requires { slot < length slots.old.items }
     ensures { HasPut slots.old.items slots.new.items slot generation place }
 {

@@ -54,8 +54,8 @@ pub extern "C" fn cubejobs_plan_bytes(options: source::cubejobs_plan::Options) -
 }
 
 #[no_mangle]
-pub extern "C" fn cubejobs_plan_open_version(plan: &mut source::cubejobs_plan::Handle, version: u32, options: source::cubejobs_plan::Options, memory: usize) -> u32 {
-    source::cubejobs_plan::cubejobs_plan_open_version(plan, version, options, memory)
+pub extern "C" fn cubejobs_plan_open_version(plan: &mut source::cubejobs_plan::Handle, version: u32, options: source::cubejobs_plan::Options, memory: source::cubejobs_plan::Chunk, address: usize) -> u32 {
+    source::cubejobs_plan::cubejobs_plan_open_version(plan, version, options, memory, address)
 }
 
 #[no_mangle]

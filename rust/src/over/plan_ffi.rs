@@ -2,6 +2,7 @@
 
 use crate::source::cubejobs_plan as source;
 use crate::source::kit::alloc::Global;
+use crate::source::kit::fixed_vec::Chunk;
 use crate::source::kit::opaque::Opaque;
 
 pub use crate::source::cubejobs_plan::codes::{
@@ -21,7 +22,8 @@ impl Handle {
 }
 
 pub fn open(plan: &mut Handle, options: Options) -> u32 {
-    source::cubejobs_plan_open_version(plan, source::VERSION, options, 0)
+    let none = Chunk { at: core::ptr::null_mut(), words: 0 };
+    source::cubejobs_plan_open_version(plan, source::VERSION, options, none, 0)
 }
 
 pub fn submit(plan: &mut Handle, request: Request) -> Job {

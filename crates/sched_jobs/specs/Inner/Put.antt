@@ -1,9 +1,9 @@
--- A write of one slot, and a change of its key.
-use Rattle.std.specs.Prelude.{◌≡◌, ◌≢◌, ℕ, List, length}
+-- A write of one slot, a change of its key, and a link between free slots.
+use Rattle.std.specs.Prelude.{◌≡◌, ◌≢◌, ℕ, ◌+◌, ◌<◌, List, length}
 use Rattle.sched_law.specs.declared.job.Place.{Place}
 use Rattle.sched_law.specs.declared.job.Place.TheVariants.{Absent, Waiting, Running}
 use Rattle.wait_queue.specs.declared.nodes.QueueNode.{QueueNode as NodeData}
-use Rattle.wait_queue.specs.Nodes.{key_of}
+use Rattle.wait_queue.specs.Nodes.{estimate_of, key_of}
 use Rattle.sched_jobs.specs.declared.slots.Slot.{Slot}
 use Rattle.sched_jobs.specs.declared.slots.Phase.TheVariants.{Queued, Started}
 use Rattle.sched_jobs.specs.Slots.{slot_in, unused}
@@ -38,3 +38,12 @@ pub record HasPut (old new : List Slot) (at generation : ℕ) (place : Place) : 
 pub record HasKey (before after : List NodeData) (at key : ℕ) : Type 0 where
   pub here : key_of after at ≡ key
   pub others : (u : ℕ) → u ≢ at → key_of after u ≡ key_of before u
+
+-- A slot is linked to the next one, and this one, if it is one of the table, back to it. All other
+-- links are as they were.
+pub record HasLink (before after : List NodeData) (at next : ℕ) : Type 0 where
+  pub len : length after ≡ length before
+  pub here : key_of after at ≡ next + 1
+  pub others : (u : ℕ) → u ≢ at → key_of after u ≡ key_of before u
+  pub back : next < length before → estimate_of after next ≡ at + 1
+  pub backs : (u : ℕ) → u ≢ next → estimate_of after u ≡ estimate_of before u

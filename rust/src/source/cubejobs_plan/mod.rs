@@ -30,8 +30,9 @@ pub(crate) mod submitting;
 
 pub use answer::{PlanCounts, PlanJob};
 pub use block_exports::{cubejobs_plan_occupy, cubejobs_plan_vacate};
-pub use codes::{DONE, OPEN, VERSION};
+pub use codes::{DONE, LENT, OPEN, VERSION};
 pub use end_exports::{cubejobs_plan_cancel, cubejobs_plan_finish};
+pub use crate::source::kit::fixed_vec::Chunk;
 pub use handle::Handle;
 pub use job_exports::cubejobs_plan_submit;
 pub use law::jobs_wait_or_run;

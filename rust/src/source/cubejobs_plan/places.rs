@@ -1,9 +1,9 @@
 // Made from crates/cubejobs_plan/src/places.rt by checks/lib/erase.py. Change that file.
-//! The planner of a handle: in its place, or lifted out of it.
+//! The planner of a handle in its place.
 
 use crate::source::kit::prelude::{Box};
 
-use crate::source::cubejobs_plan::codes::OPEN;
+use crate::source::cubejobs_plan::codes::{LENT, OPEN};
 use crate::source::cubejobs_plan::handle::Handle;
 use crate::source::cubejobs_plan::opaque_ptr::OpaquePtr;
 use crate::source::cubejobs_plan::planner::Planner;
@@ -29,36 +29,30 @@ impl Handle {
         }
     }
 
-    // Makes it the handle of a planner. A planner that it had is dropped.
+    // Makes the handle of a planner in memory of the caller.
     #[inline(always)]
-    pub(crate) fn put(&mut self, place: Box<Planner>) {
-        let Handle { tag: _, at: _ } = replace(self, Handle::of(place));
+    pub(crate) fn of_lent(at: OpaquePtr) -> Handle {
+        Handle { tag: LENT, at }
+    }
+
+    // Makes it another handle. A planner that it had is forgotten.
+    #[inline(always)]
+    pub(crate) fn put(&mut self, handle: Handle) {
+        let Handle { tag: _, at: _ } = replace(self, handle);
     }
 
     // Returns whether it is open.
     #[inline(always)]
     pub(crate) fn is_open(&self) -> bool {
-        self.tag == OPEN
+        self.tag == OPEN || self.tag == LENT
     }
 
-    // Returns the planner in its place, if the handle is open.
+    // Drops the planner, if it is on the heap. Memory of the caller stays as it is.
     #[inline(always)]
-    fn into_place(self) -> Option<Box<Planner>> {
+    pub(crate) fn free(self) {
         let Handle { tag, at } = self;
         if tag == OPEN {
-            Some(at.into_box())
-        } else {
-            None
+            drop(at.into_box());
         }
     }
-}
-
-// Lifts the planner out of an open handle, which is shut then.
-#[inline(always)]
-pub(crate) fn lift(handle: &mut Handle, alloc: Global) -> Option<Box<Planner>> {
-    // The bytes of a shut handle stay as they are, whatever they are.
-    if !handle.is_open() {
-        return None;
-    }
-    replace(handle, Handle::shut(alloc)).into_place()
 }

@@ -1,23 +1,22 @@
 // Made from crates/fit_tree/src/fit.rt by checks/lib/erase.py. Change that file.
 //! A machine as a value.
 
-use crate::source::kit::prelude::{Vec, vec};
-
 use crate::source::fit_tree::errors::{JoinError, NoFitError, NotFreeError, NotHeldError, SplitError};
 use crate::source::fit_tree::head::{COUNT_PLACES, Head};
 use crate::source::fit_tree::image;
 use crate::source::cube_shape::{MAX_BITMAP_DIM, Region};
+use crate::source::kit::fixed_vec::{FixedVec, Store};
 use crate::source::kit::alloc::{AllocError, Global};
 
 /// A machine for one thread: which aligned blocks are held.
 ///
-/// Only `new` allocates memory, `2^(n + 1)` bytes. Each other call takes at most about `2 * n`
-/// steps.
+/// Only `new` and `new_in` take memory, `2^(n + 1)` bytes. Each other call takes at most about
+/// `2 * n` steps.
 #[derive(Debug)]
 pub struct FitTree {
     dim: u32,
     head: Head,
-    rooms: Vec<u8>,
+    rooms: FixedVec<u8>,
 }
 
 impl FitTree {
@@ -29,7 +28,20 @@ impl FitTree {
     /// - ensures dim: `IfOk result (λ made. made.dim ≡ n)`
     /// - ensures free: `IfOk result (λ made. (s : ℕ) → held_in made s ≡ None)`
     pub fn new(alloc: Global, n: u32) -> Result<Self, AllocError> {
-        let mut rooms = vec![in alloc; 0u8; 2 << n]?;
+        FitTree::new_in(&mut Store::heap(alloc), n)
+    }
+
+    /// Creates such a machine in memory of a store.
+    ///
+    /// # Clauses of the proved source
+    ///
+    /// - requires: `n ≤ MAX_BITMAP_DIM`
+    /// - ensures dim: `IfOk result (λ made. made.dim ≡ n)`
+    /// - ensures free: `IfOk result (λ made. (s : ℕ) → held_in made s ≡ None)`
+    /// - ensures spends: `OnOk result (Spends (fit_words n) store.old store.new)`
+    /// - ensures enough: `HasWords (fit_words n) store.old → IsOk result`
+    pub fn new_in(store: &mut Store, n: u32) -> Result<Self, AllocError> {
+        let mut rooms = store.filled(0u8, 2 << n, (1 << n) / 4 + 1)?;
         let mut head = Head {
             mark: 0,
             dim: n,

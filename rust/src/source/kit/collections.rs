@@ -95,6 +95,7 @@ impl<T> VecDeque<T> {
 }
 
 /// Makes a vector: `vec![in alloc; item; count]`.
+#[allow(unused_macros)] // not each form of the package needs it
 macro_rules! vec_of {
     (in $alloc:expr; $item:expr; $count:expr) => {
         crate::source::kit::collections::Vec::filled($alloc, $item, $count)

@@ -8,6 +8,8 @@ pub mod atomic_table;
 pub mod collections;
 #[cfg(feature = "dispatch")]
 pub mod counted_slot;
+#[cfg(feature = "plan")]
+pub mod fixed_vec;
 pub mod heap;
 pub mod opaque;
 #[cfg(feature = "dispatch")]

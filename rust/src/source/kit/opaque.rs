@@ -15,6 +15,12 @@ impl<T> Opaque<T> {
         Opaque(Some(content))
     }
 
+    /// Makes a pointer to a content on the heap: words of the caller stay unused.
+    #[cfg(feature = "plan")]
+    pub fn in_words(_: super::fixed_vec::Chunk, content: T, alloc: Global) -> Self {
+        Opaque(Box::new(alloc, content).ok())
+    }
+
     /// Lends the content. The proofs show that there is one.
     pub fn get_mut(&mut self) -> &mut T {
         self.0.as_mut().expect("a shut handle has no content")

@@ -1,40 +1,42 @@
 // Made from crates/sched_blocks/src/blocks.rt by checks/lib/erase.py. Change that file.
 //! The blocks of a scheduler as a value.
 
-use crate::source::kit::prelude::{Vec, vec};
-
 use crate::source::sched_blocks::nodes::{lower, node_of, note_idle, note_use, upper};
 use crate::source::block_trees::{end_at, is_earlier, open};
 use crate::source::cube_shape::{MAX_BITMAP_DIM, Region};
 use crate::source::fit_tree::FitTree;
-use crate::source::kit::alloc::{AllocError, Global};
+use crate::source::kit::fixed_vec::{FixedVec, Store};
+use crate::source::kit::alloc::AllocError;
 
 /// The blocks of a scheduler for one thread: those in use, by a job or out of service, and the ends
 /// of the jobs.
 ///
-/// Only `new` allocates memory, about `28 * 2^n` bytes.
+/// Only `new` takes memory, about `28 * 2^n` bytes.
 #[derive(Debug)]
 pub struct Blocks {
     dim: u32,
     used: FitTree,
     out: FitTree,
-    ends: Vec<u64>,
-    busy: Vec<u32>,
+    ends: FixedVec<u64>,
+    busy: FixedVec<u32>,
 }
 
 impl Blocks {
-    /// Creates the blocks of a machine of dimension `n`, of which none is in use.
+    /// Creates the blocks of a machine of dimension `n`, of which none is in use, in memory of a
+    /// store.
     ///
     /// # Clauses of the proved source
     ///
     /// - requires: `n ≤ MAX_BITMAP_DIM`
     /// - ensures dim: `IfOk result (λ made. made.dim ≡ n)`
     /// - ensures shows: `IfOk result (λ made. (patience : ℕ) → Shows (initial n patience) made)`
-    pub fn new(alloc: Global, n: u32) -> Result<Self, AllocError> {
-        let used = FitTree::new(alloc, n)?;
-        let out = FitTree::new(alloc, n)?;
-        let mut ends = vec![in alloc; 0u64; 2 << n]?;
-        let mut busy = vec![in alloc; 0u32; 2 << n]?;
+    /// - ensures spends: `OnOk result (Spends (block_words n) store.old store.new)`
+    /// - ensures enough: `HasWords (block_words n) store.old → IsOk result`
+    pub fn new(store: &mut Store, n: u32) -> Result<Self, AllocError> {
+        let used = FitTree::new_in(store, n)?;
+        let out = FitTree::new_in(store, n)?;
+        let mut ends = store.filled(0u64, 2 << n, 2 << n)?;
+        let mut busy = store.filled(0u32, 2 << n, 1 << n)?;
         open(&mut ends, &mut busy);
         Ok(Blocks {
             dim: n,

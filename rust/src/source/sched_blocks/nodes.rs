@@ -1,10 +1,9 @@
 // Made from crates/sched_blocks/src/nodes.rt by checks/lib/erase.py. Change that file.
 //! The nodes of blocks, and what both trees note of them.
 
-use crate::source::kit::prelude::{Vec};
-
 use crate::source::block_trees::{add_busy, drop_busy, set_end};
 use crate::source::cube_shape::{MAX_BITMAP_DIM, Region};
+use crate::source::kit::fixed_vec::FixedVec;
 
 /// Returns the node that names a block.
 pub(crate) fn node_of(n: u32, region: Region) -> usize {
@@ -28,14 +27,20 @@ pub(crate) fn upper(n: u32, region: Region) -> Region {
 }
 
 /// Notes in both trees that a block is in use until an end.
-pub(crate) fn note_use(ends: &mut Vec<u64>, busy: &mut Vec<u32>, n: u32, region: Region, end: u64) {
+pub(crate) fn note_use(
+    ends: &mut FixedVec<u64>,
+    busy: &mut FixedVec<u32>,
+    n: u32,
+    region: Region,
+    end: u64,
+) {
     let node = node_of(n, region);
     set_end(ends, n, region.dim, node, end);
     add_busy(busy, n, region.dim, node);
 }
 
 /// Notes in both trees that a block is not in use any more.
-pub(crate) fn note_idle(ends: &mut Vec<u64>, busy: &mut Vec<u32>, n: u32, region: Region) {
+pub(crate) fn note_idle(ends: &mut FixedVec<u64>, busy: &mut FixedVec<u32>, n: u32, region: Region) {
     let node = node_of(n, region);
     set_end(ends, n, region.dim, node, 0);
     drop_busy(busy, n, region.dim, node);

@@ -4,9 +4,10 @@
 use crate::source::sched_core::assigned::{Assigned, Forecast};
 use crate::source::sched_core::scheduler::Core;
 use crate::source::cube_shape::{MAX_BITMAP_DIM, Region};
+use crate::source::kit::fixed_vec::Store;
 use crate::source::sched_jobs::{CLASSES, MAX_GENERATION, MAX_SLOTS};
 use crate::source::sched_law::{Place, SchedJob};
-use crate::source::kit::alloc::{AllocError, Global};
+use crate::source::kit::alloc::AllocError;
 
 /// A scheduler that shows a state of `sched_law` at each call. So no call requires that.
 pub struct Scheduler {
@@ -14,8 +15,9 @@ pub struct Scheduler {
 }
 
 impl Scheduler {
-    /// Creates a scheduler of a machine of dimension `dim`, for this many jobs, without a job. If
-    /// `patience` times the machine has passed the head, a block is reserved for it in any case.
+    /// Creates a scheduler of a machine of dimension `dim`, for this many jobs, without a job, in
+    /// memory of a store. If `patience` times the machine has passed the head, a block is reserved
+    /// for it in any case.
     ///
     /// # Clauses of the proved source
     ///
@@ -23,8 +25,15 @@ impl Scheduler {
     /// - requires capacity: `capacity ≤ MAX_SLOTS`
     /// - ensures slots: `IfOk result (λ made. slots_of made ≡ capacity)`
     /// - ensures shows: `IfOk result (ShowsCore (initial dim patience))`
-    pub fn new(alloc: Global, dim: u32, capacity: usize, patience: u32) -> Result<Self, AllocError> {
-        let core = Core::new(alloc, dim, capacity, patience)?;
+    /// - ensures spends: `OnOk result (Spends (core_words dim capacity) store.old store.new)`
+    /// - ensures enough: `HasWords (core_words dim capacity) store.old → IsOk result`
+    pub fn new(
+        store: &mut Store,
+        dim: u32,
+        capacity: usize,
+        patience: u32,
+    ) -> Result<Self, AllocError> {
+        let core = Core::new(store, dim, capacity, patience)?;
         Ok(Scheduler { core })
     }
 
@@ -231,6 +240,30 @@ impl Scheduler {
     /// - ensures shows: `(w : Sched) → ShowsCore w self.old → IfSome result (λ slot. ShowsCore (submit job w) self.new)`
     pub fn submit(&mut self, job: SchedJob) -> Option<u32> {
         self.core.submit(job)
+    }
+
+    /// Adds a waiting job in a slot. Returns false only if the slot has a job or has had as many as
+    /// it may have; then nothing changes.
+    ///
+    /// # Clauses of the proved source
+    ///
+    /// - requires inside: `slot < slots_of self.old`
+    /// - requires sound: `IsSound (dim_of self.old) job`
+    /// - requires class: `job.class < CLASSES`
+    /// - requires next: `submitted_of self.old < LAST`
+    /// - ensures slots: `slots_of self.new ≡ slots_of self.old`
+    /// - ensures unchanged: `IsFalse result → self.new ≡ self.old`
+    /// - ensures refused: `IsFalse result → IsTaken self.old slot ⊎ IsSpent self.old slot`
+    /// - ensures free: `IsTrue result → IsTaken self.old slot → ⊥`
+    /// - ensures unspent: `IsTrue result → job_generation self.old slot < MAX_GENERATION`
+    /// - ensures generation: `IsTrue result → job_generation self.new slot ≡ job_generation self.old slot + 1`
+    /// - ensures generations: `(u : ℕ) → u ≢ slot → job_generation self.new u ≡ job_generation self.old u`
+    /// - ensures place: `IsTrue result → job_place self.new slot ≡ Waiting (record { job = job; passed = 0 })`
+    /// - ensures arrival: `IsTrue result → job_arrival self.new slot ≡ submitted_of self.old`
+    /// - ensures others: `KeepsOtherJobs self.old self.new slot`
+    /// - ensures shows: `(w : Sched) → ShowsCore w self.old → IsTrue result → ShowsCore (submit job w) self.new`
+    pub fn submit_into(&mut self, slot: u32, job: SchedJob) -> bool {
+        self.core.submit_into(slot, job)
     }
 
     /// Removes a waiting job. A block that was reserved for it is so no more.

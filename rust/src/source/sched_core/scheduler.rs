@@ -4,14 +4,15 @@
 use crate::source::sched_core::assigned::Assigned;
 use crate::source::sched_core::small::{beside, without};
 use crate::source::cube_shape::{MAX_BITMAP_DIM, Region};
+use crate::source::kit::fixed_vec::Store;
 use crate::source::sched_blocks::Blocks;
 use crate::source::sched_jobs::{CLASSES, Jobs, MAX_GENERATION, MAX_SLOTS};
 use crate::source::sched_law::{Place, SchedJob};
-use crate::source::kit::alloc::{AllocError, Global};
+use crate::source::kit::alloc::AllocError;
 
 /// A scheduler of aligned blocks for one thread.
 ///
-/// Only `new` allocates memory.
+/// Only `new` takes memory.
 pub(crate) struct Core {
     pub(crate) blocks: Blocks,
     pub(crate) jobs: Jobs,
@@ -21,16 +22,17 @@ pub(crate) struct Core {
 }
 
 impl Core {
-    /// Creates a scheduler of a machine of dimension `dim`, for this many jobs, without a job. If
-    /// `patience` times the machine has passed the head, a block is reserved for it in any case.
+    /// Creates a scheduler of a machine of dimension `dim`, for this many jobs, without a job, in
+    /// memory of a store. If `patience` times the machine has passed the head, a block is reserved
+    /// for it in any case.
     pub(crate) fn new(
-        alloc: Global,
+        store: &mut Store,
         dim: u32,
         capacity: usize,
         patience: u32,
     ) -> Result<Self, AllocError> {
-        let blocks = Blocks::new(alloc, dim)?;
-        let jobs = Jobs::new(alloc, capacity)?;
+        let blocks = Blocks::new(store, dim)?;
+        let jobs = Jobs::new(store, capacity)?;
         Ok(Core {
             blocks,
             jobs,
@@ -131,6 +133,12 @@ impl Core {
     /// had as many as it may have; then nothing changes.
     pub(crate) fn submit(&mut self, job: SchedJob) -> Option<u32> {
         self.jobs.submit(job)
+    }
+
+    /// Adds a waiting job in a slot. Returns false only if the slot has a job or has had as many as
+    /// it may have; then nothing changes.
+    pub(crate) fn submit_into(&mut self, slot: u32, job: SchedJob) -> bool {
+        self.jobs.submit_into(slot, job)
     }
 
     /// Removes a waiting job. A block that was reserved for it is so no more.

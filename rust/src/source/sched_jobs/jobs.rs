@@ -1,8 +1,6 @@
 // Made from crates/sched_jobs/src/jobs.rt by checks/lib/erase.py. Change that file.
 //! The jobs of a scheduler as a value.
 
-use crate::source::kit::prelude::{Vec, vec};
-
 use crate::source::sched_jobs::line_table::LineTable;
 use crate::source::sched_jobs::lines::{CLASSES, DIMS, LINES};
 use crate::source::sched_jobs::search::Wanted;
@@ -10,13 +8,14 @@ use crate::source::sched_jobs::slots::{
     MAX_GENERATION, Slot, generation_at, is_present, next_present, place_at, processors_of, put,
 };
 use crate::source::cube_shape::{MAX_BITMAP_DIM, Region};
+use crate::source::kit::fixed_vec::{FixedVec, Store};
 use crate::source::sched_law::{Place, SchedJob, SchedRun, SchedWait};
-use crate::source::kit::alloc::{AllocError, Global};
+use crate::source::kit::alloc::AllocError;
 use crate::source::wait_queue::MAX_SLOTS;
 
 /// The jobs of a scheduler for one thread.
 ///
-/// Only `new` allocates memory.
+/// Only `new` takes memory.
 pub struct Jobs {
     next: u64,
     free: u32,
@@ -24,21 +23,23 @@ pub struct Jobs {
     running: u64,
     /// How many processors the running jobs use.
     asked: u64,
-    slots: Vec<Slot>,
+    slots: FixedVec<Slot>,
     lines: LineTable,
 }
 
 impl Jobs {
-    /// Creates a table for this many jobs, without a job.
+    /// Creates a table for this many jobs, without a job, in memory of a store.
     ///
     /// # Clauses of the proved source
     ///
     /// - requires: `capacity ≤ MAX_SLOTS`
     /// - ensures capacity: `IfOk result (λ made. capacity_of made ≡ capacity)`
     /// - ensures shows: `IfOk result (λ made. (n patience : ℕ) → ShowsJobs (initial n patience) made)`
-    pub fn new(alloc: Global, capacity: usize) -> Result<Self, AllocError> {
-        let slots = vec![in alloc; Slot::UNUSED; capacity]?;
-        let lines = LineTable::new(alloc, capacity)?;
+    /// - ensures spends: `OnOk result (Spends (job_words capacity) store.old store.new)`
+    /// - ensures enough: `HasWords (job_words capacity) store.old → IsOk result`
+    pub fn new(store: &mut Store, capacity: usize) -> Result<Self, AllocError> {
+        let slots = store.filled(Slot::UNUSED, capacity, 7 * capacity)?;
+        let lines = LineTable::new(store, capacity)?;
         Ok(Jobs {
             next: 0,
             free: 0,
@@ -230,13 +231,63 @@ impl Jobs {
         if slot as usize >= self.slots.len() {
             return None;
         }
+        self.take(slot, job);
+        Some(slot)
+    }
+
+    /// Adds a waiting job in a slot. Returns false only if the slot has a job or is retired; then
+    /// nothing changes.
+    ///
+    /// # Clauses of the proved source
+    ///
+    /// - requires inside: `slot < capacity_of self.old`
+    /// - requires next: `self.old.next < LAST`
+    /// - requires class: `job.class < CLASSES`
+    /// - requires dim: `job.dim ≤ MAX_BITMAP_DIM`
+    /// - requires shows: `(w : Sched) × ShowsJobs w self.old`
+    /// - ensures capacity: `capacity_of self.new ≡ capacity_of self.old`
+    /// - ensures unchanged: `IsFalse result → self.new ≡ self.old`
+    /// - ensures refused: `IsFalse result → HasJob self.old slot ⊎ IsRetired self.old slot`
+    /// - ensures free: `IsTrue result → (place_of self.old slot ≡ Absent) × (generation_of self.old slot < MAX_GENERATION)`
+    /// - ensures next: `IsTrue result → self.new.next ≡ self.old.next + 1`
+    /// - ensures place: `IsTrue result → place_of self.new slot ≡ Waiting (record { job = job; passed = 0 })`
+    /// - ensures arrival: `IsTrue result → arrival_of self.new slot ≡ self.old.next`
+    /// - ensures generation: `IsTrue result → generation_of self.new slot ≡ generation_of self.old slot + 1`
+    /// - ensures generations: `(u : ℕ) → u ≢ slot → generation_of self.new u ≡ generation_of self.old u`
+    /// - ensures others: `HasOtherJobs self.old self.new slot`
+    /// - ensures shows: `(w : Sched) → ShowsJobs w self.old → IsTrue result → ShowsJobs (submit job w) self.new`
+    pub fn submit_into(&mut self, slot: u32, job: SchedJob) -> bool {
+        if is_present(&self.slots, slot) {
+            return false;
+        }
+        if generation_at(&self.slots, slot) >= MAX_GENERATION {
+            return false;
+        }
+        self.bring_forward(slot);
+        self.take(slot, job);
+        true
+    }
+
+    // Makes a free slot the first one.
+    fn bring_forward(&mut self, slot: u32) {
+        if slot == self.free {
+            return;
+        }
+        let before = self.lines.free_before(slot);
+        let after = self.lines.free_after(slot);
+        self.lines.link(before, after);
+        self.lines.link(slot, self.free);
+        self.free = slot;
+    }
+
+    // Adds a waiting job in the first free slot.
+    fn take(&mut self, slot: u32, job: SchedJob) {
         let generation = generation_at(&self.slots, slot) + 1;
         self.free = self.lines.free_after(slot);
         self.lines.join(&job, slot, self.next);
         let wait = SchedWait { job, passed: 0 };
         put(&mut self.slots, slot, generation, Place::Waiting(wait));
         self.next += 1;
-        Some(slot)
     }
 
     /// Removes a waiting job.
@@ -290,7 +341,7 @@ impl Jobs {
         if is_last {
             return;
         }
-        self.lines.set_key(slot, self.free as u64 + 1);
+        self.lines.link(slot, self.free);
         self.free = slot;
     }
 

@@ -1,22 +1,23 @@
 // Made from crates/sched_jobs/src/line_table.rt by checks/lib/erase.py. Change that file.
 //! The queues of the waiting jobs of a table.
 
-use crate::source::kit::prelude::{Vec, vec};
-
 use crate::source::sched_jobs::counts::total;
-use crate::source::sched_jobs::lines::{CLASSES, DIMS, LINES, is_class_empty, join_line, key_at, leave_line, put_key};
+use crate::source::sched_jobs::lines::{
+    CLASSES, DIMS, LINES, is_class_empty, join_line, key_at, leave_line, put_key, put_rank, rank_at,
+};
 use crate::source::sched_jobs::search::{Wanted, first_of_all};
 use crate::source::cube_shape::MAX_BITMAP_DIM;
+use crate::source::kit::fixed_vec::{FixedVec, Store};
 use crate::source::sched_law::{NEVER, SchedJob};
-use crate::source::kit::alloc::{AllocError, Global};
+use crate::source::kit::alloc::AllocError;
 use crate::source::wait_queue::{MAX_SLOTS, Queue, QueueNode};
 
 /// A queue for each class and dimension, over one node for each slot.
 pub struct LineTable {
-    pub(crate) nodes: Vec<QueueNode>,
-    pub(crate) queues: Vec<Queue>,
+    pub(crate) nodes: FixedVec<QueueNode>,
+    pub(crate) queues: FixedVec<Queue>,
     /// Whether a class may have waiting jobs.
-    pub(crate) used: Vec<bool>,
+    pub(crate) used: FixedVec<bool>,
 }
 
 // Returns the rank of an estimate: the largest number if it is not known.
@@ -38,11 +39,11 @@ fn set_flag(used: &mut [bool], class: usize, to: bool) {
 }
 
 impl LineTable {
-    /// Creates empty queues for this many slots.
-    pub(crate) fn new(alloc: Global, capacity: usize) -> Result<Self, AllocError> {
-        let nodes = vec![in alloc; QueueNode::UNUSED; capacity]?;
-        let queues = vec![in alloc; Queue::new(); LINES]?;
-        let used = vec![in alloc; false; CLASSES as usize]?;
+    /// Creates empty queues for this many slots, in memory of a store.
+    pub(crate) fn new(store: &mut Store, capacity: usize) -> Result<Self, AllocError> {
+        let nodes = store.filled(QueueNode::UNUSED, capacity, 5 * capacity)?;
+        let queues = store.filled(Queue::new(), LINES, LINES)?;
+        let used = store.filled(false, CLASSES as usize, 1)?;
         Ok(LineTable {
             nodes,
             queues,
@@ -62,6 +63,15 @@ impl LineTable {
             return slot + 1;
         }
         (link - 1) as u32
+    }
+
+    /// Returns the free slot before a free one that is not the first.
+    pub(crate) fn free_before(&self, slot: u32) -> u32 {
+        let back = rank_at(&self.nodes, slot);
+        if back == 0 {
+            return slot.saturating_sub(1);
+        }
+        (back - 1) as u32
     }
 
     /// Returns the slot that is wanted, of the first class, with the least key there.
@@ -95,5 +105,19 @@ impl LineTable {
     /// Writes the key of a slot that is in no line.
     pub(crate) fn set_key(&mut self, slot: u32, key: u64) {
         put_key(&mut self.nodes, slot, key);
+    }
+
+    /// Writes the rank of a slot that is in no line.
+    pub(crate) fn set_rank(&mut self, slot: u32, rank: u64) {
+        put_rank(&mut self.nodes, slot, rank);
+    }
+
+    /// Links a free slot to the next one, and this one, if it is one of the table, back to it.
+    pub(crate) fn link(&mut self, slot: u32, next: u32) {
+        self.set_key(slot, next as u64 + 1);
+        if next as usize >= self.nodes.len() {
+            return;
+        }
+        self.set_rank(next, slot as u64 + 1);
     }
 }

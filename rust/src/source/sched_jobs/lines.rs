@@ -26,6 +26,17 @@ pub(crate) fn put_key(nodes: &mut [QueueNode], slot: u32, key: u64) {
     queues_rest_on_their_slots();
 }
 
+/// Returns the rank of a slot.
+pub(crate) fn rank_at(nodes: &[QueueNode], slot: u32) -> u64 {
+    nodes[slot as usize].estimate
+}
+
+/// Writes the rank of a slot that is in no line.
+pub(crate) fn put_rank(nodes: &mut [QueueNode], slot: u32, rank: u64) {
+    nodes[slot as usize].estimate = rank;
+    queues_rest_on_their_slots();
+}
+
 /// Appends a slot to a queue, with a key above all keys of this queue.
 pub(crate) fn join_line(
     nodes: &mut [QueueNode],

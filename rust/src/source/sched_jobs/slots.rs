@@ -1,9 +1,8 @@
 // Made from crates/sched_jobs/src/slots.rt by checks/lib/erase.py. Change that file.
 //! The slots of a table of jobs.
 
-use crate::source::kit::prelude::{Vec};
-
 use crate::source::cube_shape::Region;
+use crate::source::kit::fixed_vec::FixedVec;
 use crate::source::sched_law::{Place, SchedJob, SchedRun, SchedWait};
 use crate::source::wait_queue::{MAX_SLOTS, QueueNode};
 
@@ -142,6 +141,6 @@ fn put_in(slots: &mut [Slot], slot: u32, generation: u64, place: Place) {
 }
 
 /// Writes a slot.
-pub(crate) fn put(slots: &mut Vec<Slot>, slot: u32, generation: u64, place: Place) {
+pub(crate) fn put(slots: &mut FixedVec<Slot>, slot: u32, generation: u64, place: Place) {
     put_in(slots, slot, generation, place);
 }

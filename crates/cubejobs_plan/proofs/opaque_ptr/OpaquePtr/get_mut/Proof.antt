@@ -36,9 +36,9 @@ use denote.Triple.Walked.{says, Stays, stay_dropped, walk_of, ends_at, walked, w
 use denote.Follow.{follows, Part, lends_Part}
 use Rattle.std.proofs.alloc.Calls.{token}
 use Rattle.std_alloc.proofs.VecSteps.Shapes.{after}
-use Rattle.std_alloc.proofs.BoxSteps.Form.{D, B, τ, word, handle}
+use Rattle.std_alloc.proofs.BoxSteps.Form.{Bx, D, B, τ, word, handle}
 use Rattle.std_alloc.proofs.BoxSteps.Steps.{box_out, box_in}
-use Rattle.cubejobs_plan.proofs.AsBox.{E}
+use Rattle.cubejobs_plan.proofs.AsBox.{boxed}
 use Rattle.cubejobs_plan.specs.InnerLending.{with_content}
 use Rattle.cubejobs_plan.specs.contracts.planner.Planner.{the_row as C}
 use Rattle.cubejobs_plan.specs.contracts.opaque_ptr.OpaquePtr.{the_row as P}
@@ -62,6 +62,9 @@ module _ {M : Type 1} {𝓤 : Ura M} (𝓛 : Logic 𝓤) (at_mem : Memory → SP
 
     abbrev Post : Val → SProp 𝓤
     Post = (walk_of 𝓛 F.ended stayed held).post bound
+
+    abbrev E : Bx
+    E = boxed d.lent
 
     abbrev as_box : C.Denot → D E
     as_box w = record { ptr = d.ptr; alloc = d.alloc; value = w }
@@ -94,7 +97,7 @@ module _ {M : Type 1} {𝓤 : Ura M} (𝓛 : Logic 𝓤) (at_mem : Memory → SP
           let En : Env 𝓤 H = env code.function.locals l in
           move ! (1 ∷ []) $ fsplit ! $ fsplit3 ! $ drop ! $ move ! (3 ∷ []) $ split ! $ move ! (2 ∷ 3 ∷ 0 ∷ []) $
           opens ! tt P {h = d} rb ro (λ vs. move ! (1 ∷ []) $
-          rewrite ! 0 (λ (x : Option C.Denot). ‵ (P.own_val (record { ptr = d.ptr; alloc = d.alloc; content = x }) vs)) is refl $
+          rewrite ! 0 (λ (x : Option C.Denot). ‵ (P.own_val (record { ptr = d.ptr; alloc = d.alloc; content = x; lent = d.lent }) vs)) is refl $
           use1 𝓛 (‵ ((B E).own_val (as_box c) vs)) (id⊢ 𝓤 _) $
           box_out E ! (as_box c) vs (λ b o hv at_b ws fa. move ! (1 ∷ 2 ∷ []) $ fjoin ! $ move ! (1 ∷ []) $
           rewrite ! 2 (λ (us : List Val). ‵ (cell_at full_share P.mir us rb ro)) ws refl $

@@ -1,7 +1,7 @@
 -- `into_parts` moves two fields, and what they own goes with them.
 use mathlib.Core.Path.{◌≡◌, refl, sym, subst}
 use mathlib.Core.List.{List, [], ◌∷◌, ◌++◌}
-use Rattle.std.proofs.Common.{Option, Some}
+use Rattle.std.proofs.Common.{Bool, false, Option, Some}
 use seplogic.Ra.Ura.{Ura}
 use mir.Val.{Val}
 use base.Logic.{SProp, ent, id⊢}
@@ -23,15 +23,18 @@ use denote.Steps.{nothing, heard}
 use denote.Triple.Spec.{triple_of}
 use denote.Triple.Table.{entered}
 use denote.Triple.Walked.{says, Stays, stay_dropped, walk_of, ends_at, Goes-dropped, walk_Meets}
-use Rattle.std_alloc.proofs.BoxSteps.Form.{D, B, word, box_typed}
+use Rattle.std_alloc.proofs.BoxSteps.Form.{Bx, D, B, word, box_typed}
 use Rattle.std_alloc.proofs.BoxSteps.Steps.{box_out, box_in}
-use Rattle.cubejobs_plan.proofs.AsBox.{E, FromOpaquePtr as From}
+use Rattle.cubejobs_plan.proofs.AsBox.{boxed, FromOpaquePtr as From}
 use Rattle.cubejobs_plan.specs.contracts.planner.Planner.{the_row as C}
 use Rattle.cubejobs_plan.specs.contracts.opaque_ptr.OpaquePtr.{the_row as H-row}
 use Rattle.cubejobs_plan.specs.contracts.opaque_ptr.OpaquePtr.into_parts as F
 use Rattle.cubejobs_plan.specs.contracts.opaque_ptr.OpaquePtr.into_parts.Key.{name as #self}
 use Rattle.cubejobs_plan.proofs.opaque_ptr.OpaquePtr.into_parts.Statement as stated
 use Rattle.cubejobs_plan.proofs.opaque_ptr.OpaquePtr.into_parts.Code as code
+
+abbrev E : Bx
+E = boxed false
 
 abbrev stayed : Stays (F.ended).signature.params (F.ended).kept
 stayed = (stay_dropped From yes, tt)
@@ -48,11 +51,12 @@ module _ {M : Type 1} {𝓤 : Ura M} (𝓛 : Logic 𝓤) (at_mem : Memory → SP
       let Post = (walk_of 𝓛 F.ended stayed (F.clauses 𝓛 at_mem run)).post z in
       let h = z.0.3.0 in
       let To = type_at (F.signature).result tt in
-      qed 𝓛 ((‵ ftrue ⊛ ‵ (fsep (H-row.own_val h z.0.4.0) ftrue)) ∷ raw (fact 𝓤 ((inside : C.Denot) × (h.content ≡ Some inside))) ∷ []) ∵
+      qed 𝓛 ((‵ ftrue ⊛ ‵ (fsep (H-row.own_val h z.0.4.0) ftrue)) ∷ raw (fact 𝓤 ((inside : C.Denot) × (h.content ≡ Some inside) × (h.lent ≡ false))) ∷ []) ∵
       move ! (1 ∷ []) $ heard ! _ (λ got. split ! $ drop ! $ fsplit ! $
       let v : D E = record { ptr = h.ptr; alloc = h.alloc; value = got.0 } in
       let made : To.Denot = record { ptr = v.ptr; alloc = v.alloc; value = v.value } in
-      rewrite ! 0 (λ (c : Option C.Denot). ‵ (H-row.own_val (record { ptr = h.ptr; alloc = h.alloc; content = c }) z.0.4.0)) got.1 refl $
+      rewrite ! 0 (λ (c : Option C.Denot). ‵ (H-row.own_val (record { ptr = h.ptr; alloc = h.alloc; content = c; lent = h.lent }) z.0.4.0)) got.1 refl $
+      rewrite ! 0 (λ (y : Bool). ‵ (H-row.own_val (record { ptr = h.ptr; alloc = h.alloc; content = Some got.0; lent = y }) z.0.4.0)) got.2 refl $
       use1 𝓛 (‵ ((B E).own_val v z.0.4.0)) (id⊢ 𝓤 _) $
       box_out E ! v z.0.4.0 (λ b o hv e ws fa. box_in E ! v b o v.value e refl $ use1 𝓛 (‵ (To.own_val made (word E hv b o ∷ []))) (id⊢ 𝓤 _) $ move ! (1 ∷ []) $ drop ! $
       let w = word E hv b o in

@@ -1,5 +1,5 @@
 -- `nothing` puts two fields together, and owns nothing more than these.
-use Rattle.std.proofs.Common.{List, [], ◌∷◌, refl, lit<, None}
+use Rattle.std.proofs.Common.{List, [], ◌∷◌, refl, lit<, false, None}
 use mir.Val.{Val, vstruct, vcons, vnil}
 use base.Fml.{ftrue, fsep}
 use types.Kit.{‵, ◌⊛◌, ◌$◌, ◌∵◌, !, qed, move, drop, join, split, fsplit, fjoin, fpack, feq_i, suffices, done}
@@ -34,7 +34,7 @@ nothing_spec 𝓤 𝓛 𝓜 𝓡 wired =
     (λ κs. ((λ _. heap_val ∷ []), tt)) (λ κs. (heap_Tells, tt)) (λ κs qs bounds a n are.
     let al = a.0 in
     let y : W.Ghost = ((κs, qs, bounds, a, (heap_val ∷ [], tt)), tt) in
-    let made : R.Denot = record { ptr = null_ptr; alloc = al; content = None } in
+    let made : R.Denot = record { ptr = null_ptr; alloc = al; content = None; lent = false } in
     let w : Val = vstruct (vcons (ptr_val null_ptr) (vcons heap_val vnil)) in
     qed 𝓛 ((‵ ftrue ⊛ ‵ (fsep (Heap.the_row.own_val al (heap_val ∷ [])) ftrue)) ∷ ‵ ftrue ∷ []) ∵ move ! (1 ∷ []) $ drop ! $ split ! $ drop ! $ fsplit ! $ move ! (1 ∷ []) $ drop ! $
     -- [what the handle of the heap owns]

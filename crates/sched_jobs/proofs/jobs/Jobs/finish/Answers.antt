@@ -7,7 +7,7 @@ use Rattle.sched_jobs.specs.declared.slots.Slot.{Slot}
 use Rattle.sched_law.proofs.SetLemmas.{absent_waits}
 use Rattle.sched_jobs.specs.Slots.{IsPresent, generation_in, line_of, place_in}
 use Rattle.sched_jobs.proofs.SlotLemmas.{place_here}
-use Rattle.sched_jobs.proofs.ShowLemmas.{set_same, waiting_changed}
+use Rattle.sched_jobs.proofs.ShowLemmas.{free_line, set_same, waiting_changed}
 use Rattle.sched_jobs.specs.Sums.{ShowsRunning, one_runs, used_by}
 use Rattle.sched_jobs.proofs.SumLemmas.{asked_some, running_moved, running_some}
 use Rattle.sched_jobs.proofs.jobs.Jobs.finish.Goals as goal
@@ -28,8 +28,9 @@ returns-clause-shows c = λ w shows.
       waiting_changed c.args.self.now.slots.items c.clear.new.self.slots.items c.args.self.now.lines c.clear.new.self.lines c.args.slot (generation_in c.args.self.now.slots.items c.args.slot) Absent shows.2
           c.clear.ensures.put c.clear.ensures.count
           (set_same c.args.self.now.slots.items c.clear.new.self.lines (λ u. line_of (place_in c.args.self.now.slots.items u)) c.args.slot None
-          (c.clear.ensures.lines (λ u. line_of (place_in c.args.self.now.slots.items u)) shows.2.shown none) none)
-          (λ u other. c.clear.ensures.ranks u) (λ wait is. absurd (absent_waits is)),
+          (c.clear.ensures.lines (λ u. line_of (place_in c.args.self.now.slots.items u)) shows.2.shown none
+          (free_line w.place c.args.self.now.next c.args.self.now.free c.args.self.now.slots.items c.args.self.now.lines.nodes.items shows.1)) none)
+          c.clear.ensures.ranks (λ wait is. absurd (absent_waits is)),
       subst (λ (n : ℕ). ShowsRunning (set w.place (key_of c.args.self.now.lines.nodes.items c.args.slot) Absent) n c.clear.new.self.slots.items c.clear.new.self.running c.clear.new.self.asked) (sym c.clear.ensures.next)
           (running_moved w.place c.args.self.now.next c.args.self.now.slots.items c.args.self.now.running c.args.self.now.asked shows.3 c.clear.new.self.slots.items c.clear.new.self.running
           c.clear.new.self.asked c.args.slot (generation_in c.args.self.now.slots.items c.args.slot) Absent c.clear.ensures.put (omega arith) c.args.self.now.free c.args.self.now.lines.nodes.items shows.1

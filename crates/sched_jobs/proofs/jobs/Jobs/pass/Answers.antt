@@ -27,12 +27,12 @@ returns-clause-shows c = λ w wait shows waits.
     let becomes : to ≡ Waiting (record { job = wait.job; passed = min (wait.passed + 2 ^ c.args.k) NEVER }) =
     ap (λ (n : ℕ). Waiting (record { job = c.in-Waiting.wait.job; passed = n })) c.passed_more-passed.ensures ∙ ap (λ (x : SchedWait). Waiting (record { job = x.job; passed = min (x.passed + 2 ^ c.args.k) NEVER })) one in
     let done = replace_shows w.place c.args.self.now.next c.args.self.now.free c.args.self.now.slots.items c.put.new.slots.items c.args.self.now.lines.nodes.items c.args.self.now.lines.nodes.items
-    c.args.slot c.generation_at-generation.result to shows.1 (subst IsPresent (sym waits) tt) tt counted c.put.ensures (record { here = refl; others = λ u other. refl }) in (
+    c.args.slot c.generation_at-generation.result to shows.1 (subst IsPresent (sym waits) tt) tt counted c.put.ensures (record { here = refl; others = λ u other. refl }) (λ u other. refl) in (
       shows.0,
       subst (λ (x : Place). ShowsSlots (set w.place (key_of c.args.self.now.lines.nodes.items c.args.slot) x) c.args.self.now.next c.args.self.now.free c.put.new.slots.items c.args.self.now.lines.nodes.items) becomes done,
       waiting_changed c.args.self.now.slots.items c.put.new.slots.items c.args.self.now.lines c.args.self.now.lines c.args.slot c.generation_at-generation.result to shows.2 c.put.ensures refl
           (set_same c.args.self.now.slots.items c.args.self.now.lines (λ u. line_of (place_in c.args.self.now.slots.items u)) c.args.slot (line_of to) shows.2.shown (ap line_of mine))
-          (λ u other. refl)
+          (λ u other _. refl)
           (own_of _ (record { job = c.in-Waiting.wait.job; passed = c.passed_more-passed.result }) (shows.2.rank c.args.slot c.in-Waiting.wait mine) (shows.2.class c.args.slot c.in-Waiting.wait mine)
           (shows.2.dim c.args.slot c.in-Waiting.wait mine)),
       subst (λ (x : Place). ShowsRunning (set w.place (key_of c.args.self.now.lines.nodes.items c.args.slot) x) c.args.self.now.next c.put.new.slots.items c.args.self.now.running c.args.self.now.asked) becomes

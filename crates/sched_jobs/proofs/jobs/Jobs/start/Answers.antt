@@ -27,12 +27,13 @@ returns-clause-shows c = λ w wait shows waits at_end.
     let becomes : to ≡ Running (record { job = wait.job; block = c.args.block; end = end_after w.now wait.job.estimate }) =
     ap (λ (x : SchedWait). Running (record { job = x.job; block = c.args.block; end = c.args.end })) one ∙ ap (λ (e : ℕ). Running (record { job = wait.job; block = c.args.block; end = e })) at_end in
     let done = replace_shows w.place c.args.self.now.next c.args.self.now.free c.args.self.now.slots.items c.put.new.slots.items c.args.self.now.lines.nodes.items c.leave.new.self.nodes.items
-    c.args.slot c.generation_at-generation.result to shows.1 (subst IsPresent (sym waits) tt) tt counted c.put.ensures (record { here = c.leave.ensures.keys c.args.slot; others = λ u other. c.leave.ensures.keys u }) in
+    c.args.slot c.generation_at-generation.result to shows.1 (subst IsPresent (sym waits) tt) tt counted c.put.ensures (record { here = c.leave.ensures.keys c.args.slot; others = λ u other. c.leave.ensures.keys u })
+    (λ u other. c.leave.ensures.ranks u) in
     let left = c.leave.ensures.lines (λ u. line_of (place_in c.args.self.now.slots.items u)) shows.2.shown (ap line_of mine) in (
       shows.0,
       subst (λ (x : Place). ShowsSlots (set w.place (key_of c.args.self.now.lines.nodes.items c.args.slot) x) c.args.self.now.next c.args.self.now.free c.put.new.slots.items c.leave.new.self.nodes.items) becomes done,
       waiting_changed c.args.self.now.slots.items c.put.new.slots.items c.args.self.now.lines c.leave.new.self c.args.slot c.generation_at-generation.result to shows.2 c.put.ensures c.leave.ensures.slots
-          left (λ u other. c.leave.ensures.ranks u) (λ wait is. absurd (runs_waits is)),
+          left (λ u other _. c.leave.ensures.ranks u) (λ wait is. absurd (runs_waits is)),
       subst (λ (x : Place). ShowsRunning (set w.place (key_of c.args.self.now.lines.nodes.items c.args.slot) x) c.args.self.now.next c.put.new.slots.items (c.args.self.now.running + 1) (c.args.self.now.asked + c.processors_of.result)) becomes
           (running_moved w.place c.args.self.now.next c.args.self.now.slots.items c.args.self.now.running c.args.self.now.asked shows.3 c.put.new.slots.items (c.args.self.now.running + 1)
           (c.args.self.now.asked + c.processors_of.result) c.args.slot c.generation_at-generation.result to c.put.ensures (subst (λ (n : ℕ). n ≤ 2 ^ 32) c.processors_of.ensures.processors c.processors_of.ensures.few)

@@ -1,0 +1,4 @@
+pub mod Words
+pub mod Values
+pub mod Lodges
+pub mod Spending

@@ -1,0 +1,5 @@
+pub mod Fixed
+pub mod Inner
+pub mod Lends
+pub mod Spending
+pub mod Words
