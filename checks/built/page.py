@@ -18,7 +18,7 @@ import random
 import re
 import shutil
 
-from checks.built import page_browser
+from checks.built import page_browser, plan_picture
 from checks.lib.browser import browser_here
 from checks.lib.page_scripts import PAGE, block, in_page, set_block
 from checks.lib.repository import path, read, read_bytes, write
@@ -391,7 +391,9 @@ def check_pictures(built, schedules, draws):
             write(file, text + "\n")
         stands = os.path.exists(path(file)) and read(file) == text + "\n"
         expect(stands, f"{file} is what the page draws: checks/run page --draw writes it")
-    expect(set(os.listdir(path(PICTURES))) == wanted, f"{PICTURES} has {sorted(set(os.listdir(path(PICTURES))) ^ wanted)} beside the page's pictures, or not")
+    wanted.update(os.path.basename(plan_picture.name(theme)) for theme in plan_picture.INK)
+    differ = sorted(wanted.symmetric_difference(os.listdir(path(PICTURES))))
+    expect(not differ, f"{PICTURES} has {differ} beside the pictures that are drawn, or not")
 
 
 def main(words):
