@@ -8,16 +8,17 @@ from checks.lib.repository import read
 from checks.lib.rows import Wrong, comes, must, put
 
 SECONDS = 20
-# A job that runs until there is a file.
-HOLDS = "until [ -e {} ]; do sleep 0.01; done"
+# A job that runs until there is a file, or for a minute: a wrong program leaves it running.
+HOLDS = "for i in $(seq 6000); do [ ! -e {} ] || break; sleep 0.01; done"
 
 
 class Loop:
     """A running event loop of four processors."""
 
     def __init__(self, words, room):
-        self.out, self.err = open(f"{room}/out", "w+", encoding="utf-8"), open(f"{room}/err", "w+", encoding="utf-8")
-        self.ran = subprocess.Popen([*words, "2"], stdin=subprocess.PIPE, stdout=self.out, stderr=self.err)
+        self.out, self.err = (os.path.join(tempfile.mkdtemp(dir=room), it) for it in ("out", "err"))
+        with open(self.out, "wb") as out, open(self.err, "wb") as err:
+            self.ran = subprocess.Popen([*words, "2"], stdin=subprocess.PIPE, stdout=out, stderr=err)
 
     def __enter__(self):
         return self
@@ -25,16 +26,14 @@ class Loop:
     def __exit__(self, *_):
         self.ran.kill()
         self.ran.wait()
-        for file in (self.ran.stdin, self.out, self.err):
-            file.close()
+        self.ran.stdin.close()
 
     def write(self, *lines):
         self.ran.stdin.write("".join(f"{it}\n" for it in lines).encode())
         self.ran.stdin.flush()
 
     def said(self, file):
-        file.seek(0)
-        return file.read().splitlines()
+        return read(file).splitlines()
 
     def shows(self, *lines):
         """Waits until it has written these lines, and no others."""

@@ -345,7 +345,7 @@ def rows(room, longer, seconds):
     yield from rows_of_crowds(room, longer, seconds)
     yield from rows_of_waits(room)
     yield from rows_of_owners(room, longer)
-    yield from misuse.rows(room, *(f"{room}/lib{it}.a" for it in (REGIONS, DISPATCH, FIT)))
+    yield from misuse.rows(room, *(f"{room}/lib{it}.a" for it in (REGIONS, DISPATCH, FIT, PLAN)))
     for source, example in (("examples/pinjobs.c", pinjobs), ("examples/event_loop.c", event_loop)):
         for compiler in (CHECKED, [*CLANG[:2], "-xc"]):
             program = Program(source, [PLAN], compiler)

@@ -97,9 +97,9 @@ def crash_has_its_frames(room):
     must(status == 0 and not frames, f"status {status}, no {frames}: {(out + said).decode(errors='replace')[:600]}")
 
 
-def rows(room, regions, lanes, exact):
-    """Yields the rows over the libraries of regions, of lanes and of exact first fit."""
-    yield Row("the owners of C++ in a checking build", owners_are_checked, (room, regions, lanes, exact))
+def rows(room, regions, lanes, exact, plan):
+    """Yields the rows over the libraries of regions, of lanes, of exact first fit and of the planner."""
+    yield Row("the owners of C++ in a checking build", owners_are_checked, (room, regions, lanes, exact, plan))
     for linker in LINKERS:
         for order in ((0, 1, 2), (2, 1, 0), (1, 2, 0)):
             yield Row(f"files with and without checks by {linker}, {order}", does_not_mix, (room, regions, linker, order))
