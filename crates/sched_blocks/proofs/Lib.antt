@@ -5,3 +5,4 @@ pub mod ChangeLemmas
 pub mod SameLemmas
 pub mod PartLemmas
 pub mod CountLemmas
+pub mod ExistLemmas

@@ -1,5 +1,7 @@
 -- What is decided, and its start.
-use Rattle.std.proofs.Common.{◌≡◌, ◌≢◌, ℕ, ◌+◌, ◌*◌, ◌^◌, ◌<◌, ◌≤◌, ◌⊎◌, inl, inr, min, Option, Some, None, refl, sym, ◌∙◌, ap, subst}
+use Rattle.std.proofs.Common.{◌≡◌, ◌≢◌, ℕ, ◌+◌, ◌*◌, ◌^◌, ◌<◌, ◌≤◌, ◌⊎◌, inl, inr, min, Bool, true, false, not, IsTrue, Option, Some, None, refl, sym, ◌∙◌, ap, subst}
+use Rattle.std.specs.Prelude.{◌↔◌}
+use Rattle.std.proofs.lemmas.Bool.{false≢true}
 use Rattle.cube_shape.specs.declared.region.Region.{Region}
 use Rattle.cube_shape.specs.Region.{IsAligned, block}
 use Rattle.sched_law.specs.declared.job.TheConstants.{NEVER}
@@ -18,6 +20,7 @@ use Rattle.sched_law.proofs.EndLemmas.{settled_after}
 use Rattle.sched_law.proofs.OneLemmas.{decide_one}
 use Rattle.sched_blocks.proofs.SameLemmas.{prepare_shows}
 use Rattle.sched_jobs.specs.declared.jobs.Jobs.{Jobs}
+use Rattle.sched_jobs.specs.Counts.{HasKnownEnd}
 use Rattle.sched_jobs.specs.Shows.{arrival_of, capacity_of, place_of}
 use Rattle.sched_core.specs.declared.assigned.Assigned.{Assigned}
 use Rattle.sched_core.specs.declared.assigned.Decision.{Decision}
@@ -28,6 +31,7 @@ use Rattle.sched_core.specs.Inner.{HasNonePassing, IsHeadSlot, IsPassing, IsPick
 use Rattle.sched_core.proofs.JobLemmas.{slot_once, slot_waits, waiting_present}
 use Rattle.sched_core.proofs.CoreLemmas.{core_safe}
 use Rattle.sched_core.proofs.ChoiceLemmas.{kept_none}
+use Rattle.sched_blocks.proofs.ExistLemmas.{latest_never, some_chosen}
 
 -- ---- preparations
 
@@ -54,6 +58,11 @@ many_by w core passed d k dims many =
     let exponents : d ≡ w.dim = dims ∙ sym k.machine.dim in
     subst (λ p. p * 2 ^ w.dim ≤ passed) (sym k.patience) (subst (λ i. core.patience * 2 ^ i ≤ passed) exponents many)
 
+-- the opposite of a test
+pub none_of : (r : Bool) (P : Type 0) → IsTrue r ↔ P → IsTrue (not r) ↔ (P → ⊥)
+none_of true P test = (λ no. absurd (false≢true no), λ none. absurd (none (test.0 refl)))
+none_of false P test = (λ _ is. false≢true (test.1 is), λ _. refl)
+
 module _ (w : Sched) (core : Core) (k : ShowsCore w core) (slot : ℕ) (head : IsHeadSlot w core.jobs slot) where
   abbrev number : ℕ
   number = arrival_of core.jobs slot
@@ -64,6 +73,16 @@ module _ (w : Sched) (core : Core) (k : ShowsCore w core) (slot : ℕ) (head : I
       by : (o : Option Assigned) → ShowsKept w.reserved core.jobs o → (o ≡ None → ⊥) → Prepares w number head.head w
       by None shown other = absurd (other refl)
       by (Some it) shown other = policy.keeps (record { job = arrival_of core.jobs it.slot; block = it.block }) shown.2
+
+  -- while no end is known, the head waits for a reservation if no block is free for it
+  pub prepare_waits : core.reserved ≡ None → (wait : SchedWait) → place_of core.jobs slot ≡ Waiting wait → (HasKnownEnd w → ⊥) → wait.passed < w.patience * 2 ^ w.dim
+      → HasNone w.dim head.head.job.dim (IsVacant w) → Prepares w number head.head w
+  prepare_waits none wait at unknown few blocked =
+      let is : wait ≡ head.head = wait_is (sym at ∙ head.at) in
+      let has = (head_by w number head.head (kept_none w core k none) head.is_head).0.1 in
+      let found = some_chosen w core.blocks k.machine head.head.job.dim has in
+      let latest = latest_never w core.blocks k.machine (λ j run runs known. unknown (j, run, runs, known)) head.head.job.dim found.0 has blocked found.1 in
+      policy.defers found.0 (kept_none w core k none) found.1 latest (subst (λ (x : SchedWait). x.passed < w.patience * 2 ^ w.dim) is few)
 
   module _ (none : core.reserved ≡ None) (wait : SchedWait) (at : place_of core.jobs slot ≡ Waiting wait) (r : Region)
       (chosen : HasUsable w wait.job.dim → Chooses w wait.job.dim (block w.dim 0) r) where

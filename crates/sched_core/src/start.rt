@@ -1,13 +1,14 @@
 //! The decision: which job starts next, and its start.
 
-ghost use Rattle.std.specs.Prelude.{◌≡◌, ℕ, ◌*◌, ◌^◌, ◌<◌, ◌≤◌, ◌⊎◌, Some, IfSome, IsFalse, IsTrue};
+ghost use Rattle.std.specs.Prelude.{◌≡◌, ℕ, ◌*◌, ◌^◌, ◌<◌, ◌≤◌, ◌⊎◌, ◌↔◌, Some, IfSome, IsFalse, IsTrue};
 ghost use Rattle.cube_shape.specs.Region.{IsAligned};
 ghost use Rattle.sched_law.specs.declared.job.TheConstants.{NEVER as LAST};
 ghost use Rattle.sched_law.specs.declared.job.Place.TheVariants.{Waiting, Running};
 ghost use Rattle.sched_law.specs.declared.job.SchedWait.{SchedWait as WaitData};
 ghost use Rattle.sched_law.specs.declared.job.SchedRun.{SchedRun as RunData};
 ghost use Rattle.sched_law.specs.State.{Sched, IsVacant, at, pass, start};
-ghost use Rattle.sched_law.specs.Policy.{Decides, IsLatest, Prepares};
+ghost use Rattle.sched_law.specs.Policy.{Decides, HasNone, IsLatest, Prepares};
+ghost use Rattle.sched_jobs.specs.Counts.{HasKnownEnd};
 ghost use Rattle.sched_core.specs.Shows.{HasSameJobs, KeepsGenerations, KeepsOthers, KeepsSlots, ShowsCore, dim_of, job_arrival, job_place, slots_of};
 ghost use Rattle.sched_core.specs.Answers.{IsAnnounced, answer_of};
 ghost use Rattle.sched_core.specs.Inner.{IsHeadSlot, IsPick};
@@ -37,12 +38,25 @@ impl Core {
         true
     }
 
-    // Reserves a block for the head, unless one is or it has to wait for that.
+    // Returns whether the head has to wait for a reservation: no end of a running job is known, and
+    // too little has passed the head.
+    fn has_to_wait(&self, passed: u64) -> bool
+        ensures { (w : Sched) → ShowsCore w self.now → IsTrue result
+            ↔ ((HasKnownEnd w → ⊥) × (passed < w.patience * 2 ^ w.dim)) }
+    {
+        if is_patient(passed, self.patience, self.blocks.dim()) {
+            return !self.jobs.has_known_end();
+        }
+        false
+    }
+
+    // Reserves a block for the head, unless one is or it has to wait for that. No block is free for
+    // the head.
     fn prepare(&mut self, head: u32)
         requires { (w : Sched) × (ShowsCore w self.old × IsHeadSlot w self.old.jobs head) }
         ensures jobs { HasSameJobs self.old self.new }
         ensures prepares { (w : Sched) (slot : IsHeadSlot w self.old.jobs head)
-            → ShowsCore w self.old → (v : Sched)
+            → ShowsCore w self.old → HasNone w.dim slot.head.job.dim (IsVacant w) → (v : Sched)
             × Prepares w (job_arrival self.old head) slot.head v × ShowsCore v self.new }
     {
         let None = self.reserved else {
@@ -51,6 +65,9 @@ impl Core {
         let Place::Waiting(wait) = self.jobs.place(head) else {
             return;
         };
+        if self.has_to_wait(wait.passed) {
+            return;
+        }
         let block = self.blocks.choose(wait.job.dim as u32);
         if !self.may_reserve(block, wait.passed) {
             return;

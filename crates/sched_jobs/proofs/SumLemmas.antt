@@ -1,11 +1,13 @@
 -- Sums over jobs and over slots.
-use Rattle.std.proofs.Common.{◌≡◌, ◌≢◌, ℕ, zero, suc, ◌+◌, ◌*◌, ◌^◌, ◌<◌, ◌≤◌, inl, inr, List, length, replicate, refl, sym, ◌∙◌, ap, subst, arith}
+use Rattle.std.proofs.Common.{◌≡◌, ◌≢◌, ℕ, zero, suc, ◌+◌, ◌*◌, ◌^◌, ◌<◌, ◌≤◌, inl, inr, Bool, true, false, List, length, replicate, refl, sym, ◌∙◌, ap, subst, arith}
+use Rattle.std.specs.Prelude.{nat_lt, if◌then◌else◌}
 use Rattle.std.proofs.lemmas.Bool.{cases_eq, cases_lt}
 use Rattle.std.proofs.lemmas.List.{get_or_past}
 use Rattle.region_bits.specs.Count.{IsCount}
 use Rattle.wait_queue.specs.declared.nodes.TheConstants.{MAX_SLOTS}
 use Rattle.wait_queue.specs.declared.nodes.QueueNode.{QueueNode as NodeData}
 use Rattle.wait_queue.specs.Nodes.{key_of}
+use Rattle.sched_law.specs.declared.job.TheConstants.{NEVER}
 use Rattle.sched_law.specs.declared.job.Place.{Place}
 use Rattle.sched_law.specs.declared.job.Place.TheVariants.{Absent, Waiting, Running}
 use Rattle.sched_law.specs.declared.job.SchedWait.{SchedWait}
@@ -15,12 +17,20 @@ use Rattle.sched_law.proofs.SetLemmas.{absent_runs, runs_waits, set_else, set_he
 use Rattle.sched_jobs.specs.declared.slots.Slot.{Slot}
 use Rattle.sched_jobs.specs.Slots.{IsPresent, place_by, place_in, slot_in, unused}
 use Rattle.sched_jobs.specs.Shows.{ShowsSlots}
-use Rattle.sched_jobs.specs.Sums.{IsSum, ShowsRunning, one_runs, sum_below, used_by}
+use Rattle.sched_jobs.specs.Sums.{IsSum, ShowsRunning, one_known, one_runs, one_timed, sum_below, used_by}
 use Rattle.sched_jobs.specs.Inner.Put.{HasPut}
 use Rattle.sched_jobs.proofs.SlotLemmas.{inside_table, place_else, place_here}
 use Rattle.sched_jobs.proofs.FreeLemmas.{all_unused}
 
 module _ (weight : Place → ℕ) where
+  -- where a sum is not 0, a part is not
+  pub sum_some : (f : ℕ → Place) (n : ℕ) → 0 < sum_below weight f n → (i : ℕ) × (0 < weight (f i))
+  sum_some f zero some = absurd (omega (arith, some))
+  sum_some f (suc n) some = elim (cases_lt 0 (weight (f n))) [
+    | inl here ↦ (n, here)
+    | inr none ↦ sum_some f n (omega (arith, some, none))
+  ]
+
   -- places that weigh the same
   pub sum_alike : (f g : ℕ → Place) (n : ℕ) → ((i : ℕ) → i < n → weight (f i) ≡ weight (g i)) → sum_below weight f n ≡ sum_below weight g n
   sum_alike f g zero same = refl
@@ -105,9 +115,38 @@ runs_counted place (suc n) = at (place n) refl (runs_counted place n)
     at (Waiting wait) is rest = inr ((λ has. runs_waits (sym has.1 ∙ is)), subst (IsCount (λ i. (run : SchedRun) × (place i ≡ Running run)) n) none_more rest)
     at (Running run) is rest = inl ((run, is), (sum_below one_runs place n, omega arith, rest))
 
+-- at most one job is counted at a place
+known_small : (b : Bool) → (if b then 1 else 0) ≤ 2 ^ 32
+known_small true = omega arith
+known_small false = omega arith
+
+pub known_few : (end : ℕ) → one_known end ≤ 2 ^ 32
+known_few end = known_small (nat_lt end NEVER)
+
+timed_small : (p : Place) → one_timed p ≤ 2 ^ 32
+timed_small Absent = omega arith
+timed_small (Waiting wait) = omega arith
+timed_small (Running run) = known_few run.end
+
+-- a job that is counted runs until a known end
+known_is : (end : ℕ) → 0 < one_known end → end < NEVER
+known_is end some = elim (cases_lt end NEVER) [
+  | inl less ↦ less
+  | inr never ↦ let none : one_known end ≡ 0 = grind (arith, never) in absurd (omega (arith, none, some))
+]
+
+pub timed_runs : (p : Place) → 0 < one_timed p → (run : SchedRun) × (p ≡ Running run) × (run.end < NEVER)
+timed_runs Absent some = absurd (omega (arith, some))
+timed_runs (Waiting wait) some = absurd (omega (arith, some))
+timed_runs (Running run) some = (run, refl, known_is run.end some)
+
+-- and is counted
+pub timed_one : (run : SchedRun) → run.end < NEVER → 0 < one_timed (Running run)
+timed_one run known = let one : one_known run.end ≡ 1 = grind (arith, known) in omega (arith, one)
+
 -- ---- the table
 
-module _ (place : ℕ → Place) (next : ℕ) (slots : List Slot) (running asked : ℕ) (k : ShowsRunning place next slots running asked) where
+module _ (place : ℕ → Place) (next : ℕ) (slots : List Slot) (running asked timed : ℕ) (k : ShowsRunning place next slots running asked timed) where
   one_small : (p : Place) → one_runs p ≤ 2 ^ 32
   one_small Absent = omega arith
   one_small (Waiting wait) = omega arith
@@ -125,6 +164,12 @@ module _ (place : ℕ → Place) (next : ℕ) (slots : List Slot) (running asked
       let is = k.summed.of_slots in
       omega (arith, limit, bound, is)
 
+  pub timed_few : length slots ≤ MAX_SLOTS → timed ≤ MAX_SLOTS * 2 ^ 32
+  timed_few limit =
+      let bound = sum_few one_timed (place_in slots) (length slots) (λ u. timed_small (place_in slots u)) in
+      let is = k.ends.of_slots in
+      omega (arith, limit, bound, is)
+
   module _ (at : ℕ) (run : SchedRun) (inside : at < length slots) (runs : place_in slots at ≡ Running run) where
     pub running_some : 1 ≤ running
     running_some =
@@ -140,7 +185,14 @@ module _ (place : ℕ → Place) (next : ℕ) (slots : List Slot) (running asked
         let is = k.summed.of_slots in
         omega (arith, part, mine, is)
 
-  module _ (new : List Slot) (running2 asked2 at generation : ℕ) (p : Place) (put : HasPut slots new at generation p) (small : used_by p ≤ 2 ^ 32) where
+    pub timed_some : one_known run.end ≤ timed
+    timed_some =
+        let part = sum_part one_timed (place_in slots) at (length slots) inside in
+        let mine : one_timed (place_in slots at) ≡ one_known run.end = ap one_timed runs in
+        let is = k.ends.of_slots in
+        omega (arith, part, mine, is)
+
+  module _ (new : List Slot) (running2 asked2 timed2 at generation : ℕ) (p : Place) (put : HasPut slots new at generation p) (small : used_by p ≤ 2 ^ 32) where
     few_now : (u : ℕ) → used_by (place_in new u) ≤ 2 ^ 32
     few_now u = elim (cases_eq u at) [
       | inl one ↦ subst (λ (x : Place). used_by x ≤ 2 ^ 32) (sym (place_here slots new at generation p put u one)) small
@@ -150,33 +202,58 @@ module _ (place : ℕ → Place) (next : ℕ) (slots : List Slot) (running asked
     -- a job of a slot has another place
     pub running_moved : (first : ℕ) (nodes : List NodeData) → ShowsSlots place next first slots nodes → IsPresent (place_in slots at)
         → running2 + one_runs (place_in slots at) ≡ running + one_runs p → asked2 + used_by (place_in slots at) ≡ asked + used_by p
-        → ShowsRunning (set place (key_of nodes at) p) next new running2 asked2
-    running_moved first nodes shown present runs uses =
+        → timed2 + one_timed (place_in slots at) ≡ timed + one_timed p
+        → ShowsRunning (set place (key_of nodes at) p) next new running2 asked2 timed2
+    running_moved first nodes shown present runs uses known =
         let inside = inside_table slots at present in
         record {
           counted = sum_moved one_runs place next slots new running running2 at generation p k.counted put inside runs (key_of nodes at) (shown.before at present) (shown.holds at present);
           summed = sum_moved used_by place next slots new asked asked2 at generation p k.summed put inside uses (key_of nodes at) (shown.before at present) (shown.holds at present);
+          ends = sum_moved one_timed place next slots new timed timed2 at generation p k.ends put inside known (key_of nodes at) (shown.before at present) (shown.holds at present);
           few = few_now;
         }
 
+-- the counter of known ends says whether there is one
+module _ (place : ℕ → Place) (next first : ℕ) (slots : List Slot) (nodes : List NodeData) (running asked timed : ℕ) (shown : ShowsSlots place next first slots nodes)
+    (k : ShowsRunning place next slots running asked timed) where
+  pub known_ends : 0 < timed → (j : ℕ) × (run : SchedRun) × (place j ≡ Running run) × (run.end < NEVER)
+  known_ends some =
+      let is = k.ends.of_jobs in
+      let found = sum_some one_timed place next (omega (arith, some, is)) in
+      let runs = timed_runs (place found.0) found.1 in
+      (found.0, runs.0, runs.1, runs.2)
+
+  pub known_none : timed ≡ 0 → (j : ℕ) (run : SchedRun) → place j ≡ Running run → run.end < NEVER → ⊥
+  known_none none j run is known =
+      let slot = shown.slot j (subst IsPresent (sym is) tt) in
+      let less : j < next = subst (λ (n : ℕ). n < next) slot.2 (shown.before slot.0 slot.1) in
+      let part = sum_part one_timed place j next less in
+      let one : one_timed (place j) ≡ one_timed (Running run) = ap one_timed is in
+      let some = timed_one run known in
+      let sum = k.ends.of_jobs in
+      omega (arith, part, one, some, sum, none)
+
 -- a new job waits
-pub running_added : (place : ℕ → Place) (next : ℕ) (slots new : List Slot) (running asked at generation : ℕ) (wait : SchedWait) → ShowsRunning place next slots running asked
+pub running_added : (place : ℕ → Place) (next : ℕ) (slots new : List Slot) (running asked timed at generation : ℕ) (wait : SchedWait) → ShowsRunning place next slots running asked timed
     → HasPut slots new at generation (Waiting wait) → at < length slots → place_in slots at ≡ Absent
-    → ShowsRunning (set place next (Waiting wait)) (next + 1) new running asked
-running_added place next slots new running asked at generation wait k put inside absent =
+    → ShowsRunning (set place next (Waiting wait)) (next + 1) new running asked timed
+running_added place next slots new running asked timed at generation wait k put inside absent =
     let one : one_runs (place_in slots at) ≡ 0 = ap one_runs absent in
     let used : used_by (place_in slots at) ≡ 0 = ap used_by absent in
+    let known : one_timed (place_in slots at) ≡ 0 = ap one_timed absent in
     record {
       counted = sum_added one_runs place next slots new running running at generation (Waiting wait) k.counted put inside (omega (arith, one)) refl refl;
       summed = sum_added used_by place next slots new asked asked at generation (Waiting wait) k.summed put inside (omega (arith, used)) refl refl;
-      few = few_now place next slots running asked k new running asked at generation (Waiting wait) put (omega arith);
+      ends = sum_added one_timed place next slots new timed timed at generation (Waiting wait) k.ends put inside (omega (arith, known)) refl refl;
+      few = few_now place next slots running asked timed k new running asked timed at generation (Waiting wait) put (omega arith);
     }
 
 -- no job runs at first
-pub initial_running : (slots : List Slot) (n : ℕ) → slots ≡ replicate n unused → length slots ≡ n → ShowsRunning (λ j. Absent) 0 slots 0 0
+pub initial_running : (slots : List Slot) (n : ℕ) → slots ≡ replicate n unused → length slots ≡ n → ShowsRunning (λ j. Absent) 0 slots 0 0 0
 initial_running slots n is len = record {
   counted = record { of_jobs = refl; of_slots = sym (sum_none one_runs (place_in slots) (length slots) (λ u. ap one_runs (absent u))) };
   summed = record { of_jobs = refl; of_slots = sym (sum_none used_by (place_in slots) (length slots) (λ u. ap used_by (absent u))) };
+  ends = record { of_jobs = refl; of_slots = sym (sum_none one_timed (place_in slots) (length slots) (λ u. ap one_timed (absent u))) };
   few = λ u. (let none : used_by (place_in slots u) ≡ 0 = ap used_by (absent u) in omega (arith, none));
 }
   where

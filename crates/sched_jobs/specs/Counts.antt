@@ -1,5 +1,6 @@
 -- Which jobs are counted, and which slots are in use.
 use Rattle.std.specs.Prelude.{ℕ, ◌<◌, ◌≤◌, List, length}
+use Rattle.sched_law.specs.declared.job.TheConstants.{NEVER}
 use Rattle.sched_law.specs.declared.job.SchedJob.{SchedJob}
 use Rattle.sched_law.specs.declared.job.SchedWait.{SchedWait}
 use Rattle.sched_law.specs.declared.job.SchedRun.{SchedRun}
@@ -16,6 +17,10 @@ DoesWait w i = (other : SchedWait) × Waits w i other
 -- Job `i` runs.
 abbrev pub DoesRun : Sched → ℕ → Type 0
 DoesRun w i = (run : SchedRun) × Runs w i run
+
+-- A running job has a known end.
+abbrev pub HasKnownEnd : Sched → Type 0
+HasKnownEnd w = (j : ℕ) × (run : SchedRun) × Runs w j run × (run.end < NEVER)
 
 -- Job `i` waits, and comes before job `j`.
 abbrev pub WaitsBefore : Sched → ℕ → SchedJob → ℕ → Type 0

@@ -114,7 +114,7 @@ ShowsJobs w jobs =
     (w.next ≡ jobs.next)
     × ShowsSlots w.place jobs.next jobs.free jobs.slots.items jobs.lines.nodes.items
     × ShowsWaiting jobs.slots.items jobs.lines
-    × ShowsRunning w.place jobs.next jobs.slots.items jobs.running jobs.asked
+    × ShowsRunning w.place jobs.next jobs.slots.items jobs.running jobs.asked jobs.timed
 
 -- A slot has a waiting job that is wanted, and no job that is wanted comes before it.
 pub record IsFirstWaiting (any most : Option ℕ) (limit : ℕ) (w : Sched) (jobs : Jobs) (slot : ℕ) : Type 0 where

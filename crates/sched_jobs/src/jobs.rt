@@ -1,6 +1,6 @@
 //! The jobs of a scheduler as a value.
 
-ghost use Rattle.std.specs.Prelude.{◌≡◌, ◌≢◌, ℕ, ◌+◌, ◌^◌, ◌<◌, ◌≤◌, ◌⊎◌, Option, min, Some, None, IsOk, IsTrue, IsFalse, IfOk, OnOk, IfSome, IfNone, length};
+ghost use Rattle.std.specs.Prelude.{◌≡◌, ◌≢◌, ℕ, ◌+◌, ◌^◌, ◌<◌, ◌≤◌, ◌⊎◌, ◌↔◌, Option, min, Some, None, IsOk, IsTrue, IsFalse, IfOk, OnOk, IfSome, IfNone, length};
 ghost use Rattle.sched_law.specs.declared.job.TheConstants.{NEVER as LAST};
 ghost use Rattle.sched_law.specs.declared.job.Place.{Place as PlaceData};
 ghost use Rattle.sched_law.specs.declared.job.Place.TheVariants.{Absent, Waiting, Running};
@@ -8,7 +8,7 @@ ghost use Rattle.sched_law.specs.declared.job.SchedWait.{SchedWait as WaitData};
 ghost use Rattle.sched_law.specs.declared.job.SchedRun.{SchedRun as RunData};
 ghost use Rattle.sched_law.specs.State.{Sched, cancel, end_after, finish, initial, pass, set, start, submit};
 ghost use Rattle.region_bits.specs.Count.{IsCount};
-ghost use Rattle.sched_jobs.specs.Counts.{DoesRun, DoesWait, HasNoneUsed, IsNextUsed, WaitsBefore};
+ghost use Rattle.sched_jobs.specs.Counts.{DoesRun, DoesWait, HasKnownEnd, HasNoneUsed, IsNextUsed, WaitsBefore};
 ghost use Rattle.sched_jobs.specs.Sums.{asked};
 ghost use Rattle.sched_jobs.specs.Lines.{HasLines, rank_in, slots_of};
 ghost use Rattle.sched_jobs.specs.Inner.Put.{HasPut};
@@ -19,7 +19,8 @@ use crate::line_table::LineTable;
 use crate::lines::{CLASSES, DIMS, LINES};
 use crate::search::Wanted;
 use crate::slots::{
-    MAX_GENERATION, Slot, generation_at, is_present, next_present, place_at, processors_of, put,
+    MAX_GENERATION, Slot, count_known, generation_at, is_present, next_present, place_at,
+    processors_of, put,
 };
 use cube_shape::{MAX_BITMAP_DIM, Region};
 use fixed_vec::{FixedVec, Store};
@@ -38,6 +39,8 @@ pub struct Jobs {
     running: u64,
     /// How many processors the running jobs use.
     asked: u64,
+    /// How many running jobs have a known end.
+    timed: u64,
     slots: FixedVec<Slot>,
     lines: LineTable,
 }
@@ -59,6 +62,7 @@ impl Jobs {
             free: 0,
             running: 0,
             asked: 0,
+            timed: 0,
             slots,
             lines,
         })
@@ -170,6 +174,16 @@ impl Jobs {
         ensures { (w : Sched) → ShowsJobs w self.now → result ≡ asked w }
     {
         self.asked
+    }
+
+    /// Returns whether the end of a running job is known.
+    pub fn has_known_end(&self) -> bool
+        ensures { (w : Sched) → ShowsJobs w self.now → IsTrue result ↔ HasKnownEnd w }
+    {
+        if self.timed == 0 {
+            return false;
+        }
+        true
     }
 
     /// Returns how many waiting jobs come before that of a slot. They are of a lower class, or of
@@ -362,6 +376,7 @@ impl Jobs {
         };
         self.running -= 1;
         self.asked -= processors_of(&ended.job);
+        self.timed -= count_known(ended.end);
         self.clear(slot);
     }
 
@@ -376,6 +391,7 @@ impl Jobs {
         ensures next { self.new.next ≡ self.old.next }
         ensures running { self.new.running ≡ self.old.running }
         ensures asked { self.new.asked ≡ self.old.asked }
+        ensures timed { self.new.timed ≡ self.old.timed }
         ensures put { HasPut self.old.slots.items self.new.slots.items slot
             (generation_of self.old slot) Absent }
         ensures generations { HasGenerations self.old self.new }
@@ -433,6 +449,7 @@ impl Jobs {
         put(&mut self.slots, slot, generation, Place::Running(run));
         self.running += 1;
         self.asked += processors_of(&wait.job);
+        self.timed += count_known(end);
     }
 
     /// Counts that a job with a block of dimension `k` passes a waiting one.

@@ -6,10 +6,11 @@ ghost use Rattle.sched_law.specs.declared.job.Place.TheVariants.{Absent};
 ghost use Rattle.sched_jobs.specs.Slots.{IsPresent, generation_in, place_by, place_in};
 ghost use Rattle.sched_jobs.specs.Inner.Put.{HasPut, slot_for};
 ghost use Rattle.sched_jobs.specs.Counts.{HasNoneIn, IsNextIn};
+ghost use Rattle.sched_jobs.specs.Sums.{one_known};
 
 use cube_shape::Region;
 use fixed_vec::FixedVec;
-use sched_law::{Place, SchedJob, SchedRun, SchedWait};
+use sched_law::{NEVER, Place, SchedJob, SchedRun, SchedWait};
 use wait_queue::{MAX_SLOTS, QueueNode};
 
 /// The most jobs that a slot may have.
@@ -160,6 +161,16 @@ pub(crate) fn processors_of(job: &SchedJob) -> u64
     ensures few { result ≤ 2 ^ 32 }
 {
     job.processors as u64
+}
+
+/// Returns 1 if an end is known, else 0.
+pub(crate) fn count_known(end: u64) -> u64
+    ensures { result ≡ one_known end }
+{
+    if end < NEVER {
+        return 1;
+    }
+    0
 }
 
 // Writes a slot of a slice.

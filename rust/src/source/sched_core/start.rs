@@ -20,7 +20,17 @@ impl Core {
         true
     }
 
-    // Reserves a block for the head, unless one is or it has to wait for that.
+    // Returns whether the head has to wait for a reservation: no end of a running job is known, and
+    // too little has passed the head.
+    fn has_to_wait(&self, passed: u64) -> bool {
+        if is_patient(passed, self.patience, self.blocks.dim()) {
+            return !self.jobs.has_known_end();
+        }
+        false
+    }
+
+    // Reserves a block for the head, unless one is or it has to wait for that. No block is free for
+    // the head.
     fn prepare(&mut self, head: u32) {
         let None = self.reserved else {
             return;
@@ -28,6 +38,9 @@ impl Core {
         let Place::Waiting(wait) = self.jobs.place(head) else {
             return;
         };
+        if self.has_to_wait(wait.passed) {
+            return;
+        }
         let block = self.blocks.choose(wait.job.dim as u32);
         if !self.may_reserve(block, wait.passed) {
             return;

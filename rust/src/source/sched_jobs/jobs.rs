@@ -5,7 +5,8 @@ use crate::source::sched_jobs::line_table::LineTable;
 use crate::source::sched_jobs::lines::{CLASSES, DIMS, LINES};
 use crate::source::sched_jobs::search::Wanted;
 use crate::source::sched_jobs::slots::{
-    MAX_GENERATION, Slot, generation_at, is_present, next_present, place_at, processors_of, put,
+    MAX_GENERATION, Slot, count_known, generation_at, is_present, next_present, place_at,
+    processors_of, put,
 };
 use crate::source::cube_shape::{MAX_BITMAP_DIM, Region};
 use crate::source::kit::fixed_vec::{FixedVec, Store};
@@ -23,6 +24,8 @@ pub struct Jobs {
     running: u64,
     /// How many processors the running jobs use.
     asked: u64,
+    /// How many running jobs have a known end.
+    timed: u64,
     slots: FixedVec<Slot>,
     lines: LineTable,
 }
@@ -45,6 +48,7 @@ impl Jobs {
             free: 0,
             running: 0,
             asked: 0,
+            timed: 0,
             slots,
             lines,
         })
@@ -172,6 +176,18 @@ impl Jobs {
     /// - ensures: `(w : Sched) → ShowsJobs w self.now → result ≡ asked w`
     pub fn asked(&self) -> u64 {
         self.asked
+    }
+
+    /// Returns whether the end of a running job is known.
+    ///
+    /// # Clauses of the proved source
+    ///
+    /// - ensures: `(w : Sched) → ShowsJobs w self.now → IsTrue result ↔ HasKnownEnd w`
+    pub fn has_known_end(&self) -> bool {
+        if self.timed == 0 {
+            return false;
+        }
+        true
     }
 
     /// Returns how many waiting jobs come before that of a slot. They are of a lower class, or of
@@ -330,6 +346,7 @@ impl Jobs {
         };
         self.running -= 1;
         self.asked -= processors_of(&ended.job);
+        self.timed -= count_known(ended.end);
         self.clear(slot);
     }
 
@@ -372,6 +389,7 @@ impl Jobs {
         put(&mut self.slots, slot, generation, Place::Running(run));
         self.running += 1;
         self.asked += processors_of(&wait.job);
+        self.timed += count_known(end);
     }
 
     /// Counts that a job with a block of dimension `k` passes a waiting one.

@@ -3,7 +3,7 @@
 
 use crate::source::cube_shape::Region;
 use crate::source::kit::fixed_vec::FixedVec;
-use crate::source::sched_law::{Place, SchedJob, SchedRun, SchedWait};
+use crate::source::sched_law::{NEVER, Place, SchedJob, SchedRun, SchedWait};
 use crate::source::wait_queue::{MAX_SLOTS, QueueNode};
 
 /// The most jobs that a slot may have.
@@ -133,6 +133,14 @@ pub(crate) fn generation_at(slots: &[Slot], slot: u32) -> u64 {
 /// Returns how many processors a job uses.
 pub(crate) fn processors_of(job: &SchedJob) -> u64 {
     job.processors as u64
+}
+
+/// Returns 1 if an end is known, else 0.
+pub(crate) fn count_known(end: u64) -> u64 {
+    if end < NEVER {
+        return 1;
+    }
+    0
 }
 
 // Writes a slot of a slice.

@@ -29,14 +29,16 @@ returns-in-Some-first-clause-picks c = λ w k.
 
 pub passing-requires : goal.passing-requires
 passing-requires c =
-    let prepared = c.prepare.ensures.prepares c.requires.0 (c.in-Some.ensures.head c.requires.0 c.requires.1) c.requires.1 in
+    let head = c.in-Some.ensures.head c.requires.0 c.requires.1 in
+    let none = head_blocked c.requires.0 c.args.self.now.jobs c.in-Some.head head c.in-Waiting.wait (sym c.place.ensures ∙ c.in-Waiting.is) (c.in_default-first.ensures.none c.requires.0 c.requires.1.machine) in
+    let prepared = c.prepare.ensures.prepares c.requires.0 head c.requires.1 none in
     (prepared.0, prepared.2)
 
 pub returns-in_default-passing-clause-picks : goal.returns-in_default-passing-clause-picks
 returns-in_default-passing-clause-picks c = λ w k.
     let head = c.in-Some.ensures.head w k in
-    let prepared = c.prepare.ensures.prepares w head k in
-    let none = head_blocked w c.args.self.now.jobs c.in-Some.head head c.in-Waiting.wait (sym c.place.ensures ∙ c.in-Waiting.is) (c.in_default-first.ensures.none w k.machine) in (
+    let none = head_blocked w c.args.self.now.jobs c.in-Some.head head c.in-Waiting.wait (sym c.place.ensures ∙ c.in-Waiting.is) (c.in_default-first.ensures.none w k.machine) in
+    let prepared = c.prepare.ensures.prepares w head k none in (
       prepared.0,
       pick_waits w prepared.0 c.args.self.now.jobs c.in-Some.head head none prepared.1 (c.in_default-passing.ensures.none prepared.0 prepared.2),
       prepared.2,
@@ -45,8 +47,8 @@ returns-in_default-passing-clause-picks c = λ w k.
 pub returns-clause-picks : goal.returns-clause-picks
 returns-clause-picks c = λ w k.
     let head = c.in-Some.ensures.head w k in
-    let prepared = c.prepare.ensures.prepares w head k in
-    let none = head_blocked w c.args.self.now.jobs c.in-Some.head head c.in-Waiting.wait (sym c.place.ensures ∙ c.in-Waiting.is) (c.in_default-first.ensures.none w k.machine) in (
+    let none = head_blocked w c.args.self.now.jobs c.in-Some.head head c.in-Waiting.wait (sym c.place.ensures ∙ c.in-Waiting.is) (c.in_default-first.ensures.none w k.machine) in
+    let prepared = c.prepare.ensures.prepares w head k none in (
       prepared.0,
       inr (moved_passes w prepared.0 c.args.self.now.jobs c.prepare.new.self.jobs c.in-Some.head c.in-Some-passing.it c.prepare.ensures.jobs head none prepared.1
           (c.in-Some-passing.ensures.first prepared.0 prepared.2)),

@@ -10,7 +10,7 @@ use Rattle.sched_jobs.specs.Slots.{IsPresent, generation_in, line_of, place_in}
 use Rattle.sched_jobs.specs.Shows.{ShowsSlots}
 use Rattle.sched_jobs.proofs.SlotLemmas.{place_here}
 use Rattle.sched_jobs.proofs.ShowLemmas.{free_line, set_none, slots_alike, waiting_changed}
-use Rattle.sched_jobs.specs.Sums.{ShowsRunning, one_runs, used_by}
+use Rattle.sched_jobs.specs.Sums.{ShowsRunning, one_runs, one_timed, used_by}
 use Rattle.sched_jobs.proofs.SumLemmas.{running_moved}
 use Rattle.sched_jobs.proofs.jobs.Jobs.cancel.Goals as goal
 
@@ -35,12 +35,13 @@ returns-clause-shows c = λ w shows.
           (c.clear.ensures.lines (set (λ u. line_of (place_in c.args.self.now.slots.items u)) c.args.slot None) left (set_here (λ u. line_of (place_in c.args.self.now.slots.items u)) c.args.slot None)
           (λ inside. set_none (λ u. line_of (place_in c.args.self.now.slots.items u)) c.args.slot c.args.self.now.free (free inside)))
           (λ u other present. c.clear.ensures.ranks u other present ∙ c.leave.ensures.ranks u) (λ wait is. absurd (absent_waits is)),
-      subst (λ (n : ℕ). ShowsRunning (set w.place (key_of c.args.self.now.lines.nodes.items c.args.slot) Absent) n c.clear.new.self.slots.items c.clear.new.self.running c.clear.new.self.asked) (sym c.clear.ensures.next)
-          (running_moved w.place c.args.self.now.next c.args.self.now.slots.items c.args.self.now.running c.args.self.now.asked shows.3 c.clear.new.self.slots.items c.clear.new.self.running
-          c.clear.new.self.asked c.args.slot (generation_in c.args.self.now.slots.items c.args.slot) Absent c.clear.ensures.put (omega arith) c.args.self.now.free c.args.self.now.lines.nodes.items shows.1
+      subst (λ (n : ℕ). ShowsRunning (set w.place (key_of c.args.self.now.lines.nodes.items c.args.slot) Absent) n c.clear.new.self.slots.items c.clear.new.self.running c.clear.new.self.asked c.clear.new.self.timed) (sym c.clear.ensures.next)
+          (running_moved w.place c.args.self.now.next c.args.self.now.slots.items c.args.self.now.running c.args.self.now.asked c.args.self.now.timed shows.3 c.clear.new.self.slots.items c.clear.new.self.running
+          c.clear.new.self.asked c.clear.new.self.timed c.args.slot (generation_in c.args.self.now.slots.items c.args.slot) Absent c.clear.ensures.put (omega arith) c.args.self.now.free c.args.self.now.lines.nodes.items shows.1
           (subst IsPresent (sym mine) tt)
           (ap (λ (n : ℕ). n + one_runs (place_in c.args.self.now.slots.items c.args.slot)) c.clear.ensures.running ∙ ap (λ (x : Place). c.args.self.now.running + one_runs x) mine)
-          (ap (λ (n : ℕ). n + used_by (place_in c.args.self.now.slots.items c.args.slot)) c.clear.ensures.asked ∙ ap (λ (x : Place). c.args.self.now.asked + used_by x) mine)),
+          (ap (λ (n : ℕ). n + used_by (place_in c.args.self.now.slots.items c.args.slot)) c.clear.ensures.asked ∙ ap (λ (x : Place). c.args.self.now.asked + used_by x) mine)
+          (ap (λ (n : ℕ). n + one_timed (place_in c.args.self.now.slots.items c.args.slot)) c.clear.ensures.timed ∙ ap (λ (x : Place). c.args.self.now.timed + one_timed x) mine)),
     )
 
 pub returns-clause-place : goal.returns-clause-place

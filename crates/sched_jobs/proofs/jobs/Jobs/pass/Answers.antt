@@ -12,7 +12,7 @@ use Rattle.sched_jobs.specs.Slots.{IsPresent, generation_in, line_of, place_in}
 use Rattle.sched_jobs.specs.Shows.{ShowsSlots}
 use Rattle.sched_jobs.proofs.ChangeLemmas.{replace_shows}
 use Rattle.sched_jobs.proofs.ShowLemmas.{own_of, set_same, waiting_changed}
-use Rattle.sched_jobs.specs.Sums.{ShowsRunning, one_runs, used_by}
+use Rattle.sched_jobs.specs.Sums.{ShowsRunning, one_runs, one_timed, used_by}
 use Rattle.sched_jobs.proofs.SumLemmas.{running_moved}
 use Rattle.sched_jobs.proofs.jobs.Jobs.pass.Goals as goal
 
@@ -35,9 +35,10 @@ returns-clause-shows c = λ w wait shows waits.
           (λ u other _. refl)
           (own_of _ (record { job = c.in-Waiting.wait.job; passed = c.passed_more-passed.result }) (shows.2.rank c.args.slot c.in-Waiting.wait mine) (shows.2.class c.args.slot c.in-Waiting.wait mine)
           (shows.2.dim c.args.slot c.in-Waiting.wait mine)),
-      subst (λ (x : Place). ShowsRunning (set w.place (key_of c.args.self.now.lines.nodes.items c.args.slot) x) c.args.self.now.next c.put.new.slots.items c.args.self.now.running c.args.self.now.asked) becomes
-          (running_moved w.place c.args.self.now.next c.args.self.now.slots.items c.args.self.now.running c.args.self.now.asked shows.3 c.put.new.slots.items c.args.self.now.running
-          c.args.self.now.asked c.args.slot c.generation_at-generation.result to c.put.ensures (omega arith)
+      subst (λ (x : Place). ShowsRunning (set w.place (key_of c.args.self.now.lines.nodes.items c.args.slot) x) c.args.self.now.next c.put.new.slots.items c.args.self.now.running c.args.self.now.asked c.args.self.now.timed) becomes
+          (running_moved w.place c.args.self.now.next c.args.self.now.slots.items c.args.self.now.running c.args.self.now.asked c.args.self.now.timed shows.3 c.put.new.slots.items c.args.self.now.running
+          c.args.self.now.asked c.args.self.now.timed c.args.slot c.generation_at-generation.result to c.put.ensures (omega arith)
           c.args.self.now.free c.args.self.now.lines.nodes.items shows.1 (subst IsPresent (sym waits) tt)
-          (ap (λ (x : Place). c.args.self.now.running + one_runs x) mine) (ap (λ (x : Place). c.args.self.now.asked + used_by x) mine)),
+          (ap (λ (x : Place). c.args.self.now.running + one_runs x) mine) (ap (λ (x : Place). c.args.self.now.asked + used_by x) mine)
+          (ap (λ (x : Place). c.args.self.now.timed + one_timed x) mine)),
     )

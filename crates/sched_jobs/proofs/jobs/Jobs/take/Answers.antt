@@ -49,7 +49,7 @@ returns-clause-shows c = λ w shows.
       waiting_changed c.args.self.now.slots.items c.put.new.slots.items c.args.self.now.lines c.join.new.self c.args.slot (c.generation_at-generation.result + 1)
           (Waiting (record { job = c.args.job; passed = 0 })) shows.2 c.put.ensures c.join.ensures.slots (c.join.ensures.lines (λ u. line_of (place_in c.args.self.now.slots.items u)) may) (λ u other _. c.join.ensures.ranks u other)
           (own_of _ (record { job = c.args.job; passed = 0 }) c.join.ensures.rank c.requires.class c.requires.dim),
-      subst (λ (x : ℕ). ShowsRunning (set w.place x (Waiting (record { job = c.args.job; passed = 0 }))) (c.args.self.now.next + 1) c.put.new.slots.items c.args.self.now.running c.args.self.now.asked) (sym shows.0)
-          (running_added w.place c.args.self.now.next c.args.self.now.slots.items c.put.new.slots.items c.args.self.now.running c.args.self.now.asked c.args.slot
+      subst (λ (x : ℕ). ShowsRunning (set w.place x (Waiting (record { job = c.args.job; passed = 0 }))) (c.args.self.now.next + 1) c.put.new.slots.items c.args.self.now.running c.args.self.now.asked c.args.self.now.timed) (sym shows.0)
+          (running_added w.place c.args.self.now.next c.args.self.now.slots.items c.put.new.slots.items c.args.self.now.running c.args.self.now.asked c.args.self.now.timed c.args.slot
           (c.generation_at-generation.result + 1) (record { job = c.args.job; passed = 0 }) shows.3 c.put.ensures c.requires.inside absent),
     )
