@@ -30,6 +30,7 @@ mod source;
 use region::Region;
 use source::bitmap_tree::HiddenSeat;
 use source::kit::alloc::Global;
+use source::kit::fixed_vec::Chunk;
 use source::kit::opaque::Opaque;
 use source::{
     cubejobs_dispatch as jobs, cubejobs_plan as plans, cubejobs_regions as blocks, cubejobs_rounds as rounds,
@@ -570,7 +571,8 @@ impl Plan {
         let flags = u32::from(jobs == 3);
         let one = plan_ffi::open(&mut self.one, plan_ffi::Options { dim, jobs, patience, flags });
         let options = plans::Options { dim, jobs, patience, flags };
-        same!("open", one, plans::cubejobs_plan_open_version(&mut self.other, plans::VERSION, options, 0));
+        let none = Chunk { at: std::ptr::null_mut(), words: 0 };
+        same!("open", one, plans::cubejobs_plan_open_version(&mut self.other, plans::VERSION, options, none, 0));
     }
 
     fn submit(&mut self, dice: &mut Dice, dim: u32) {
