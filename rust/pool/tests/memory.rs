@@ -259,5 +259,6 @@ fn a_dropped_pool_frees_its_lanes() {
     let before = resident();
     (0..threads.len()).for_each(|first| use_a_pool(&threads[first..], &sums));
     let grown = resident().saturating_sub(before);
-    assert!(grown < 8 << 20, "ten pools that were dropped left {} KiB", grown >> 10);
+    // If each thread keeps the lanes of its last pool, 54 MiB stay. Beside other work 9 MiB were seen.
+    assert!(grown < 16 << 20, "ten pools that were dropped left {} KiB", grown >> 10);
 }
