@@ -1,5 +1,5 @@
 -- The least keys of lines, dimension by dimension, and class by class.
-use Rattle.std.proofs.Common.{◌≡◌, ◌≢◌, ℕ, ◌+◌, ◌-◌, ◌<◌, ◌≤◌, ◌⊎◌, inl, inr, Bool, false, List, Option, Some, None, IfSome, IfNone, length, sym, ap, subst, arith}
+use Rattle.std.proofs.Common.{◌≡◌, ◌≢◌, ℕ, ◌+◌, ◌-◌, ◌<◌, ◌≤◌, ◌⊎◌, inl, inr, Bool, false, List, Option, Some, None, IfSome, IfNone, length, refl, sym, ap, subst, arith}
 use Rattle.std.proofs.lemmas.Bool.{cases_eq, cases_lt}
 use Rattle.cube_shape.specs.declared.limits.TheConstants.{MAX_BITMAP_DIM}
 use Rattle.wait_queue.specs.declared.nodes.QueueNode.{QueueNode as NodeData}
@@ -11,6 +11,11 @@ use Rattle.sched_jobs.specs.Slots.{line_at}
 use Rattle.sched_jobs.specs.Lines.{AreLines, ShowsLines, flag_in}
 use Rattle.sched_jobs.specs.Inner.Joins.{IsFirstIn, IsFirstWithin}
 use Rattle.sched_jobs.specs.Inner.Search.{IsChosen, IsFit, IsFitBelow, IsFitIn, IsLeast, IsOlder}
+
+-- where there is no other, the one stays
+pub older_alone : (nodes : List NodeData) (one : Option ℕ) → IsOlder nodes one None one
+older_alone nodes None = refl
+older_alone nodes (Some u) = refl
 
 -- what has a property has another one
 pub least_alike : (nodes : List NodeData) (P Q : ℕ → Type 0) → ((u : ℕ) → P u → Q u) → ((u : ℕ) → Q u → P u) → (answer : Option ℕ) → IsLeast nodes P answer → IsLeast nodes Q answer

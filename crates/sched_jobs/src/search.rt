@@ -84,11 +84,11 @@ fn older(nodes: &[QueueNode], one: Option<u32>, other: Option<u32>) -> Option<u3
     requires other { IfSome other (λ u. u < length nodes.now) }
     ensures { IsOlder nodes.now one other result }
 {
-    let Some(first) = one else {
-        return other;
-    };
     let Some(second) = other else {
         return one;
+    };
+    let Some(first) = one else {
+        return other;
     };
     if key_at(nodes, second) < key_at(nodes, first) {
         return other;

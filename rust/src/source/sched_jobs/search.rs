@@ -59,11 +59,11 @@ fn first_fit(
 
 // Returns the slot with the lesser key of at most two.
 fn older(nodes: &[QueueNode], one: Option<u32>, other: Option<u32>) -> Option<u32> {
-    let Some(first) = one else {
-        return other;
-    };
     let Some(second) = other else {
         return one;
+    };
+    let Some(first) = one else {
+        return other;
     };
     if key_at(nodes, second) < key_at(nodes, first) {
         return other;
