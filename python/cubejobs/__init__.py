@@ -1,4 +1,4 @@
-"""Allocators of aligned blocks for Python, over the proved shared objects of cubejobs.
+"""Allocators of aligned blocks and a planner of jobs for Python, over the proved shared objects of cubejobs.
 
 A machine of dimension n has the processors 0 to 2^n - 1. A processor is only a number. A block of dimension k is 2^k
 processors in a row, from a multiple of 2^k on.
@@ -13,7 +13,10 @@ least base. Both hold any number of blocks, on machines of dimension 0 to 20.
 4 4
 0
 
-Both have the methods of `Machine`, so one function serves both. Here it counts the blocks for which there is room:
+`Planner` says which waiting job starts next, and on which processors: `help(cubejobs.Planner)`. `examples/day.py` plans a
+day with it.
+
+Both machines have the methods of `Machine`, so one function serves both. Here it counts the blocks for which there is room:
 
 >>> def fill(machine: Machine, dim: int) -> int:
 ...     blocks = []
