@@ -1,5 +1,5 @@
 -- Counts of numbers, of the keys of a list of slots, and of those of lines.
-use Rattle.std.proofs.Common.{◌≡◌, ℕ, zero, suc, ◌+◌, ◌-◌, ◌<◌, ◌≤◌, ◌⊎◌, inl, inr, Bool, cond, ltb, List, [], ◌∷◌, Option, Some, None, length, refl, sym, ◌∙◌, ap, subst, arith}
+use Rattle.std.proofs.Common.{◌≡◌, ℕ, zero, suc, ◌+◌, ◌<◌, ◌≤◌, ◌⊎◌, inl, inr, Bool, cond, ltb, List, [], ◌∷◌, Option, Some, None, length, refl, sym, ◌∙◌, ap, subst, arith}
 use Rattle.std.proofs.lemmas.Bool.{cases_eq, cases_lt, le-ltb, lt-ltb}
 use Rattle.std.proofs.lemmas.List.Sums.{sum_by-cons}
 use Rattle.region_bits.specs.Count.{IsCount}
@@ -142,33 +142,3 @@ lines_more nodes line first at next bound before one after numbers inside total 
 pub no_lines : (nodes : List NodeData) (line : ℕ → Option ℕ) (first next : ℕ) (bound : Option ℕ) → IsCount (HasKeyFrom nodes line first first bound) next 0
 no_lines nodes line first next bound =
     count_none (HasKeyFrom nodes line first first bound) next (λ i has. (let from : first ≤ has.0 = has.1 in let less : has.0 < first = has.2 in omega (arith, from, less)))
-
--- ---- the last number
-
--- numbers below one
-count_below : (P : ℕ → Type 0) (m n count : ℕ) → n ≤ m → IsCount P n count → IsCount (λ i. P i × (i < m)) n count
-count_below P m zero count low is = is
-count_below P m (suc n) count low (inl is) = inl ((is.0, omega (arith, low)), (is.1.0, is.1.1, count_below P m n is.1.0 (omega (arith, low)) is.1.2))
-count_below P m (suc n) count low (inr lacks) = inr ((λ has. lacks.0 has.0), count_below P m n count (omega (arith, low)) lacks.1)
-
--- all others are below the last one
-count_last : (P : ℕ → Type 0) (m count : ℕ) → P m → IsCount P (suc m) count → (0 < count) × IsCount (λ i. P i × (i < m)) (suc m) (count - 1)
-count_last P m count here (inl is) =
-    let less : count ≡ is.1.0 + 1 = is.1.1 in
-    let others : is.1.0 ≡ count - 1 = omega (arith, less) in
-    (omega (arith, less), inr ((λ has. let itself = has.1 in omega (arith, itself)), subst (IsCount (λ i. P i × (i < m)) m) others (count_below P m m is.1.0 (omega arith) is.1.2)))
-count_last P m count here (inr lacks) = absurd (lacks.0 here)
-
-module _ (nodes : List NodeData) (line : ℕ → Option ℕ) (first end m next count : ℕ) (here : HasKeyFrom nodes line first end None m) (is : IsCount (HasKeyFrom nodes line first end None) next count) (last : next ≡ suc m) where
-  without : (0 < count) × IsCount (λ i. HasKeyFrom nodes line first end None i × (i < m)) (suc m) (count - 1)
-  without = count_last (HasKeyFrom nodes line first end None) m count here (subst (λ (n : ℕ). IsCount (HasKeyFrom nodes line first end None) n count) last is)
-
-  pub last_some : 0 < count
-  last_some = without.0
-
-  pub last_counted : IsCount (HasKeyFrom nodes line first end (Some m)) next (count - 1)
-  last_counted =
-      count_alike (λ i. HasKeyFrom nodes line first end None i × (i < m)) (HasKeyFrom nodes line first end (Some m)) next (count - 1)
-      (λ i has. (has.0.0, has.0.1, has.0.2, (has.0.3.0, has.0.3.1, has.0.3.2, has.1)))
-      (λ i has. ((has.0, has.1, has.2, (has.3.0, has.3.1, has.3.2, tt)), has.3.3))
-      (subst (λ (n : ℕ). IsCount (λ i. HasKeyFrom nodes line first end None i × (i < m)) n (count - 1)) (sym last) without.1)

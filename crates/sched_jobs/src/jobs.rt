@@ -1,6 +1,6 @@
 //! The jobs of a scheduler as a value.
 
-ghost use Rattle.std.specs.Prelude.{◌≡◌, ◌≢◌, ℕ, ◌+◌, ◌*◌, ◌^◌, ◌<◌, ◌≤◌, ◌⊎◌, ◌↔◌, Option, min, Some, None, IsOk, IsTrue, IsFalse, IfOk, OnOk, IfSome, IfNone, length};
+ghost use Rattle.std.specs.Prelude.{◌≡◌, ◌≢◌, ℕ, ◌+◌, ◌^◌, ◌<◌, ◌≤◌, ◌⊎◌, ◌↔◌, Option, min, Some, None, IsOk, IsTrue, IsFalse, IfOk, OnOk, IfSome, IfNone, length};
 ghost use Rattle.sched_law.specs.declared.job.TheConstants.{NEVER as LAST};
 ghost use Rattle.sched_law.specs.declared.job.Place.{Place as PlaceData};
 ghost use Rattle.sched_law.specs.declared.job.Place.TheVariants.{Absent, Waiting, Running};
@@ -12,8 +12,6 @@ ghost use Rattle.sched_jobs.specs.Counts.{DoesRun, DoesWait, HasKnownEnd, HasNon
 ghost use Rattle.sched_jobs.specs.Sums.{asked};
 ghost use Rattle.sched_jobs.specs.Lines.{HasLines, rank_in, slots_of};
 ghost use Rattle.sched_jobs.specs.Inner.Put.{HasPut};
-ghost use Rattle.sched_jobs.specs.Inner.Numbers.{HasKeyFrom};
-ghost use Rattle.sched_jobs.specs.Slots.{line_of};
 ghost use Rattle.fixed_vec.specs.Spending.{HasWords, Spends};
 ghost use Rattle.sched_jobs.specs.Shows.{HasGenerations, HasJob, HasNoneWaiting, HasOtherJobs, HasOthers, IsFirstWaiting, IsRetired, ShowsJobs, ShowsSlots, arrival_of, capacity_of, generation_of, job_words, place_of, ticket_of};
 
@@ -205,24 +203,7 @@ impl Jobs {
         let first = wait.job.class as usize * DIMS;
         let lower = self.lines.count(0, first, None);
         let number = self.lines.key(slot);
-        lower + self.count_older(first, number)
-    }
-
-    // Returns how many waiting jobs of the class of a waiting job have a lesser number. The class
-    // begins at line `first`. All others have one if the job was submitted last.
-    fn count_older(&self, first: usize, number: u64) -> u64
-        requires lines { first + (MAX_BITMAP_DIM + 1) ≤ LINES }
-        requires job { (w : Sched) × (ShowsJobs w self.now × HasKeyFrom self.now.lines.nodes.items
-            (λ u. line_of (place_of self.now u)) first (first + (MAX_BITMAP_DIM + 1)) None number) }
-        ensures count { (w : Sched) → ShowsJobs w self.now
-            → IsCount (HasKeyFrom self.now.lines.nodes.items (λ u. line_of (place_of self.now u))
-            first (first + (MAX_BITMAP_DIM + 1)) (Some number)) self.now.next result }
-        ensures few { result ≤ LINES * 2 ^ 32 }
-    {
-        if self.next - number == 1 {
-            return self.lines.count(first, first + DIMS, None) - 1;
-        }
-        self.lines.count(first, first + DIMS, Some(number))
+        lower + self.lines.count(first, first + DIMS, Some(number))
     }
 
     /// Returns the first slot from one on that has a job.

@@ -207,16 +207,7 @@ impl Jobs {
         let first = wait.job.class as usize * DIMS;
         let lower = self.lines.count(0, first, None);
         let number = self.lines.key(slot);
-        lower + self.count_older(first, number)
-    }
-
-    // Returns how many waiting jobs of the class of a waiting job have a lesser number. The class
-    // begins at line `first`. All others have one if the job was submitted last.
-    fn count_older(&self, first: usize, number: u64) -> u64 {
-        if self.next - number == 1 {
-            return self.lines.count(first, first + DIMS, None) - 1;
-        }
-        self.lines.count(first, first + DIMS, Some(number))
+        lower + self.lines.count(first, first + DIMS, Some(number))
     }
 
     /// Returns the first slot from one on that has a job.
