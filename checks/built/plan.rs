@@ -23,10 +23,19 @@ struct Played {
     tickets: HashMap<u64, u64>,
 }
 
+/// Returns how many jobs come before a waiting one. Of the last job the scheduler says it by two calls.
+fn before(scheduler: &Scheduler, slot: u32) -> u64 {
+    let before = scheduler.before(slot);
+    if scheduler.arrival(slot) + 1 == scheduler.submitted() {
+        assert!(before == scheduler.before_last(slot), "the last job has another number before it");
+    }
+    before
+}
+
 /// Returns what is known of a job, as the model writes it.
 fn shown(scheduler: &Scheduler, slot: u32) -> String {
     let (job, before) = match scheduler.place(slot) {
-        Place::Waiting(wait) => (wait.job, scheduler.before(slot)),
+        Place::Waiting(wait) => (wait.job, before(scheduler, slot)),
         Place::Running(run) => (run.job, 0),
         Place::Absent => return "absent".to_string(),
     };

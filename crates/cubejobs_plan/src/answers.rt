@@ -1,8 +1,10 @@
 //! How an answer about a job is made.
 
-ghost use Rattle.std.specs.Prelude.{◌≡◌, ℕ, ◌<◌};
+ghost use Rattle.std.specs.Prelude.{◌≡◌, ℕ, ◌+◌, ◌<◌};
+ghost use Rattle.sched_law.specs.declared.job.Place.TheVariants.{Waiting};
+ghost use Rattle.sched_law.specs.declared.job.SchedWait.{SchedWait as WaitData};
 ghost use Rattle.sched_law.specs.State.{Sched};
-ghost use Rattle.sched_core.specs.Shows.{IsTaken, ShowsCore, job_arrival, job_place, slots_of};
+ghost use Rattle.sched_core.specs.Shows.{IsTaken, ShowsCore, job_arrival, job_place, slots_of, submitted_of};
 ghost use Rattle.sched_core.specs.Answers.{IsWaitForecast};
 ghost use Rattle.cubejobs_plan.specs.Answers.{HasNumbers, IsAnswer, IsBefore, IsListed, SaysNothing, SaysQueued, SaysRuns};
 
@@ -179,4 +181,16 @@ pub(crate) fn answer_at(scheduler: &Scheduler, slot: u32) -> PlanJob
         → IsAnswer w scheduler.now slot result }
 {
     described(scheduler, slot, before(scheduler, slot))
+}
+
+/// Returns the answer about the job of a slot, which waits, and was submitted last.
+pub(crate) fn answer_at_last(scheduler: &Scheduler, slot: u32) -> PlanJob
+    requires inside { slot < slots_of scheduler.now }
+    requires job { (wait : WaitData) × (job_place scheduler.now slot ≡ Waiting wait) }
+    requires last { job_arrival scheduler.now slot + 1 ≡ submitted_of scheduler.now }
+    ensures code { result.code ≡ DONE }
+    ensures answer { (w : Sched) → ShowsCore w scheduler.now
+        → IsAnswer w scheduler.now slot result }
+{
+    described(scheduler, slot, scheduler.before_last(slot))
 }

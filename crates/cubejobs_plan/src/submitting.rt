@@ -7,7 +7,7 @@ ghost use Rattle.cubejobs_plan.specs.Answers.{SaysNothing};
 ghost use Rattle.cubejobs_plan.specs.Jobs.{IsAskable, IsAsked, IsFull, IsRefused, IsSubmitted};
 
 use crate::answer::PlanJob;
-use crate::answers::{answer_at, refused};
+use crate::answers::{answer_at_last, refused};
 use crate::codes::{DONE, FULL, OUT_OF_RANGE};
 use crate::request::PlanRequest;
 use cube_shape::MAX_BITMAP_DIM;
@@ -78,5 +78,5 @@ pub(crate) fn submit(scheduler: &mut Scheduler, request: PlanRequest) -> PlanJob
     let Some(slot) = scheduler.submit(job_of(n, request)) else {
         return refused(FULL);
     };
-    answer_at(scheduler, slot)
+    answer_at_last(scheduler, slot)
 }

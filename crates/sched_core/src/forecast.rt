@@ -1,12 +1,14 @@
 //! What is known of a job's start and end, and which jobs come before it.
 
-ghost use Rattle.std.specs.Prelude.{◌≡◌, ℕ, ◌<◌, IsTrue, IsFalse};
+ghost use Rattle.std.specs.Prelude.{◌≡◌, ℕ, ◌+◌, ◌<◌, IsTrue, IsFalse};
 ghost use Rattle.region_bits.specs.Count.{IsCount};
+ghost use Rattle.sched_law.specs.declared.job.TheConstants.{NEVER as LAST};
 ghost use Rattle.sched_law.specs.declared.job.Place.TheVariants.{Waiting};
 ghost use Rattle.sched_law.specs.declared.job.SchedWait.{SchedWait as WaitData};
 ghost use Rattle.sched_law.specs.State.{Sched};
 ghost use Rattle.sched_law.specs.Policy.{Precedes};
-ghost use Rattle.sched_core.specs.Shows.{IsTaken, ShowsCore, job_arrival, job_place, slots_of};
+ghost use Rattle.sched_jobs.specs.Counts.{WaitsBefore};
+ghost use Rattle.sched_core.specs.Shows.{IsTaken, ShowsCore, job_arrival, job_place, slots_of, submitted_of};
 ghost use Rattle.sched_core.specs.Answers.{ComesBefore, IsForecast, IsWaitForecast};
 
 use crate::assigned::Forecast;
@@ -71,17 +73,20 @@ impl Core {
         precedes(&one.job, number, &other.job, self.jobs.arrival(second))
     }
 
-    /// Returns how many waiting jobs come before the waiting job of a slot. The reserved job comes
-    /// before all others.
-    pub(crate) fn before(&self, slot: u32) -> u64
+    // Returns how many waiting jobs come before that of a slot, where `before` do in order. The
+    // reserved job comes before all others.
+    fn before_with(&self, slot: u32, before: u64) -> u64
         requires shows { (w : Sched) × ShowsCore w self.now }
         requires inside { slot < slots_of self.now }
         requires job { (wait : WaitData) × (job_place self.now slot ≡ Waiting wait) }
+        requires count { (w : Sched) (wait : WaitData) → ShowsCore w self.now
+            → job_place self.now slot ≡ Waiting wait
+            → IsCount (WaitsBefore w (job_arrival self.now slot) wait.job) w.next before }
+        requires few { before < LAST }
         ensures { (w : Sched) (wait : WaitData) → ShowsCore w self.now
             → job_place self.now slot ≡ Waiting wait
             → IsCount (ComesBefore w (job_arrival self.now slot) wait.job) w.next result }
     {
-        let before = self.jobs.count_before(slot);
         let Some(kept) = self.reserved else {
             return before;
         };
@@ -92,5 +97,31 @@ impl Core {
             return before;
         }
         before + 1
+    }
+
+    /// Returns how many waiting jobs come before the waiting job of a slot. The reserved job comes
+    /// before all others.
+    pub(crate) fn before(&self, slot: u32) -> u64
+        requires shows { (w : Sched) × ShowsCore w self.now }
+        requires inside { slot < slots_of self.now }
+        requires job { (wait : WaitData) × (job_place self.now slot ≡ Waiting wait) }
+        ensures { (w : Sched) (wait : WaitData) → ShowsCore w self.now
+            → job_place self.now slot ≡ Waiting wait
+            → IsCount (ComesBefore w (job_arrival self.now slot) wait.job) w.next result }
+    {
+        self.before_with(slot, self.jobs.count_before(slot))
+    }
+
+    /// Returns the same for the job that was submitted last.
+    pub(crate) fn before_last(&self, slot: u32) -> u64
+        requires shows { (w : Sched) × ShowsCore w self.now }
+        requires inside { slot < slots_of self.now }
+        requires job { (wait : WaitData) × (job_place self.now slot ≡ Waiting wait) }
+        requires last { job_arrival self.now slot + 1 ≡ submitted_of self.now }
+        ensures { (w : Sched) (wait : WaitData) → ShowsCore w self.now
+            → job_place self.now slot ≡ Waiting wait
+            → IsCount (ComesBefore w (job_arrival self.now slot) wait.job) w.next result }
+    {
+        self.before_with(slot, self.jobs.count_before_last(slot))
     }
 }

@@ -197,6 +197,18 @@ impl Scheduler {
         self.core.before(slot)
     }
 
+    /// Returns the same for the job that was submitted last.
+    pub fn before_last(&self, slot: u32) -> u64
+        requires inside { slot < slots_of self.now }
+        requires job { (wait : WaitData) × (job_place self.now slot ≡ Waiting wait) }
+        requires last { job_arrival self.now slot + 1 ≡ submitted_of self.now }
+        ensures { (w : Sched) (wait : WaitData) → ShowsCore w self.now
+            → job_place self.now slot ≡ Waiting wait
+            → IsCount (ComesBefore w (job_arrival self.now slot) wait.job) w.next result }
+    {
+        self.core.before_last(slot)
+    }
+
     /// Returns how many processors jobs hold.
     pub fn held(&self) -> u32
         ensures { (w : Sched) → ShowsCore w self.now
@@ -245,6 +257,8 @@ impl Scheduler {
             ≡ Waiting (record { job = job; passed = 0 })) }
         ensures arrival { IfSome result (λ slot. job_arrival self.new slot
             ≡ submitted_of self.old) }
+        ensures submitted { IfSome result (λ slot. submitted_of self.new
+            ≡ submitted_of self.old + 1) }
         ensures others { IfSome result (KeepsOthers self.old self.new) }
         ensures shows { (w : Sched) → ShowsCore w self.old
             → IfSome result (λ slot. ShowsCore (submit job w) self.new) }

@@ -236,6 +236,8 @@ impl Core {
             ≡ Waiting (record { job = job; passed = 0 })) }
         ensures arrival { IfSome result (λ slot. job_arrival self.new slot
             ≡ submitted_of self.old) }
+        ensures submitted { IfSome result (λ slot. submitted_of self.new
+            ≡ submitted_of self.old + 1) }
         ensures others { IfSome result (KeepsOthers self.old self.new) }
         ensures shows { (w : Sched) → ShowsCore w self.old
             → IfSome result (λ slot. ShowsCore (submit job w) self.new) }

@@ -1,5 +1,5 @@
 -- Lines without slots, and lines that are alike.
-use Rattle.std.proofs.Common.{◌≡◌, ◌≢◌, ℕ, ◌+◌, ◌*◌, ◌<◌, ◌≤◌, ◌⊎◌, inl, inr, Bool, true, false, List, [], Option, Some, None, length, replicate, sym, ◌∙◌, ap, subst, true≢false, arith}
+use Rattle.std.proofs.Common.{◌≡◌, ◌≢◌, ℕ, ◌+◌, ◌*◌, ◌<◌, ◌≤◌, ◌⊎◌, inl, inr, List, [], Option, Some, None, length, replicate, sym, ◌∙◌, ap, subst, arith}
 use Rattle.std.proofs.lemmas.Bool.{cases_eq, cases_lt}
 use Rattle.std.proofs.lemmas.List.{get_or-replicate, get_or_past, length-replicate}
 use Rattle.cube_shape.specs.declared.limits.TheConstants.{MAX_BITMAP_DIM}
@@ -10,10 +10,12 @@ use Rattle.wait_queue.specs.Nodes.{estimate_of, key_of, node_at}
 use Rattle.wait_queue.specs.Lists.{Has}
 use Rattle.wait_queue.specs.Queues.{IsQueue}
 use Rattle.sched_law.specs.State.{set}
-use Rattle.sched_law.proofs.SetLemmas.{look, none_is_some, same}
+use Rattle.sched_law.proofs.SetLemmas.{look, none_is_some, same, set_else, set_here}
 use Rattle.sched_jobs.specs.declared.lines.TheConstants.{CLASSES}
 use Rattle.sched_jobs.specs.Slots.{line_at}
-use Rattle.sched_jobs.specs.Lines.{AreLines, HasNoneOf, ShowsLines, flag_in, queue_in}
+use Rattle.sched_jobs.specs.Lines.{AreLines, IsOfClass, ShowsLines, count_in, queue_in}
+use Rattle.region_bits.specs.Count.{IsCount}
+use Rattle.sched_jobs.proofs.NumberLemmas.{count_alike, count_none, count_zero, count_with, count_without}
 
 pub no_line : (nodes : List NodeData) (queues : List QueueData) → length nodes ≤ MAX_SLOTS → ((q : ℕ) → q < length queues → IsQueue nodes (queue_in queues q) [])
     → AreLines nodes queues (λ u. None)
@@ -29,13 +31,15 @@ alike nodes queues line now are same = record {
       record { slots = is.slots; is_queue = is.is_queue; only = λ u has. same u ∙ is.only u has; all = λ u on. is.all u (sym (same u) ∙ on) });
 }
 
-pub shown_alike : (nodes : List NodeData) (queues : List QueueData) (used : List Bool) (line now : ℕ → Option ℕ) → ShowsLines nodes queues used line → ((u : ℕ) → now u ≡ line u)
-    → ShowsLines nodes queues used now
-shown_alike nodes queues used line now k same = record {
+pub shown_alike : (nodes : List NodeData) (queues : List QueueData) (counts : List ℕ) (line now : ℕ → Option ℕ) → ShowsLines nodes queues counts line → ((u : ℕ) → now u ≡ line u)
+    → ShowsLines nodes queues counts now
+shown_alike nodes queues counts line now k same = record {
   lines = alike nodes queues line now k.lines same;
   queues_count = k.queues_count;
-  used_count = k.used_count;
-  unused = λ class within is dim u low on. k.unused class within is dim u low (sym (same u) ∙ on);
+  counts_count = k.counts_count;
+  counted = λ class within.
+      count_alike (IsOfClass line class) (IsOfClass now class) (length nodes) (count_in counts class)
+      (λ u is. (is.0, is.1, same u ∙ is.2)) (λ u is. (is.0, is.1, sym (same u) ∙ is.2)) (k.counted class within);
 }
 
 -- a line is that of one class and one dimension
@@ -50,51 +54,107 @@ pub line_inside : (class dim n : ℕ) → class < CLASSES → dim ≤ MAX_BITMAP
 line_inside class dim n within low is = omega (arith, within, low, is)
 
 -- empty queues
-pub shown_empty : (nodes : List NodeData) (queues : List QueueData) (used : List Bool) (none : QueueData) (n : ℕ) → length nodes ≡ n → n ≤ MAX_SLOTS
-    → queues ≡ replicate (CLASSES * (MAX_BITMAP_DIM + 1)) none → IsQueue nodes none [] → length queues ≡ CLASSES * (MAX_BITMAP_DIM + 1) → length used ≡ CLASSES
-    → ShowsLines nodes queues used (λ u. None)
-shown_empty nodes queues used none n count limit are is_queue queues_count used_count = record {
+pub shown_empty : (nodes : List NodeData) (queues : List QueueData) (counts : List ℕ) (none : QueueData) (n : ℕ) → length nodes ≡ n → n ≤ MAX_SLOTS
+    → queues ≡ replicate (CLASSES * (MAX_BITMAP_DIM + 1)) none → IsQueue nodes none [] → length queues ≡ CLASSES * (MAX_BITMAP_DIM + 1) → counts ≡ replicate CLASSES 0 → length counts ≡ CLASSES
+    → ShowsLines nodes queues counts (λ u. None)
+shown_empty nodes queues counts none n count limit are is_queue queues_count zeros counts_count = record {
   lines = no_line nodes queues (omega (arith, count, limit)) (λ q inside. subst (λ (x : QueueData). IsQueue nodes x []) (sym (all_none q (subst (λ (m : ℕ). q < m) queues_count inside))) is_queue);
   queues_count = queues_count;
-  used_count = used_count;
-  unused = λ class within is dim u low on. none_is_some on;
+  counts_count = counts_count;
+  counted = λ class within.
+      subst (IsCount (IsOfClass (λ u. None) class) (length nodes)) (sym (all_zero class within))
+      (count_none (IsOfClass (λ u. None) class) (length nodes) (λ u is. none_is_some is.2));
 }
   where
+    all_zero : (class : ℕ) → class < CLASSES → count_in counts class ≡ 0
+    all_zero class within = ap (λ (xs : List ℕ). count_in xs class) zeros ∙ get_or-replicate CLASSES class 0 0 within
+
     all_none : (q : ℕ) → q < CLASSES * (MAX_BITMAP_DIM + 1) → queue_in queues q ≡ none
     all_none q within = ap (λ (xs : List QueueData). queue_in xs q) are ∙ get_or-replicate (CLASSES * (MAX_BITMAP_DIM + 1)) q none (record { root = 0; front = 0 }) within
 
-module _ (nodes new : List NodeData) (queues made : List QueueData) (used flags : List Bool) (line : ℕ → Option ℕ) (class dim slot : ℕ)
-    (k : ShowsLines nodes queues used line) (low : dim ≤ MAX_BITMAP_DIM) (count : length made ≡ length queues) (flags_count : length flags ≡ length used)
-    (others : (c : ℕ) → c ≢ class → flag_in flags c ≡ flag_in used c) where
+-- a slot of a line is one of the nodes
+pub slot_inside : (nodes : List NodeData) (queues : List QueueData) (counts : List ℕ) (line : ℕ → Option ℕ) (class u : ℕ) → class < CLASSES → ShowsLines nodes queues counts line
+    → IsOfClass line class u → u < length nodes
+slot_inside nodes queues counts line class u within k is =
+    let here = k.lines.each (line_at class is.0) (line_inside class is.0 (length queues) within is.1 k.queues_count) in here.is_queue.inside u (here.all u is.2)
+
+-- a class with a count of 0 has no slot
+pub none_of_class : (nodes : List NodeData) (queues : List QueueData) (counts : List ℕ) (line : ℕ → Option ℕ) (class : ℕ) → class < CLASSES → ShowsLines nodes queues counts line
+    → count_in counts class ≡ 0 → (u : ℕ) → IsOfClass line class u → ⊥
+none_of_class nodes queues counts line class within k zero u is =
+    count_zero (IsOfClass line class) (length nodes) (count_in counts class) zero (k.counted class within) u (slot_inside nodes queues counts line class u within k is) is
+
+module _ (nodes new : List NodeData) (queues made : List QueueData) (counts after : List ℕ) (line : ℕ → Option ℕ) (class dim slot : ℕ)
+    (k : ShowsLines nodes queues counts line) (low : dim ≤ MAX_BITMAP_DIM) (nodes_count : length new ≡ length nodes) (count : length made ≡ length queues)
+    (counts_count : length after ≡ length counts) (others : (c : ℕ) → c ≢ class → count_in after c ≡ count_in counts c) where
+  -- the lines after the slot has another line
+  abbrev now : Option ℕ → ℕ → Option ℕ
+  now to = set line slot to
+
   -- a slot joined a line
-  pub shown_joined : AreLines new made (set line slot (Some (line_at class dim))) → flag_in flags class ≡ true → ShowsLines new made flags (set line slot (Some (line_at class dim)))
-  shown_joined are here = record {
+  pub shown_joined : slot < length nodes → line slot ≡ None → AreLines new made (set line slot (Some (line_at class dim))) → count_in after class ≡ count_in counts class + 1
+      → ShowsLines new made after (set line slot (Some (line_at class dim)))
+  shown_joined inside free are here = record {
     lines = are;
     queues_count = count ∙ k.queues_count;
-    used_count = flags_count ∙ k.used_count;
-    unused = λ c within is d u few on. elim (cases_eq c class) [
-      | inl one ↦ true≢false (sym here ∙ sym (ap (flag_in flags) one) ∙ is)
-      | inr away ↦ elim (look line slot (Some (line_at class dim)) u (Some (line_at c d)) on) [
-        | inl mine ↦ away (sym (one_class class dim c d low few (same mine.1)))
-        | inr old ↦ k.unused c within (sym (others c away) ∙ is) d u few old.1
-      ]
-    ];
+    counts_count = counts_count ∙ k.counts_count;
+    counted = λ c within. subst (λ (n : ℕ). IsCount (IsOfClass (now (Some (line_at class dim))) c) n (count_in after c)) (sym nodes_count) (elim (cases_eq c class) [
+      | inl one ↦
+          count_with (IsOfClass line c) (IsOfClass (now (Some (line_at class dim))) c) slot (length nodes) (count_in counts c) (count_in after c) inside
+          (λ is. none_is_some (sym free ∙ is.2)) (ap (count_in after) one ∙ here ∙ ap (λ (x : ℕ). count_in counts x + 1) (sym one))
+          (λ u has. elim has [
+            | inl old ↦ kept c u old
+            | inr at ↦ (dim, low, ap (now (Some (line_at class dim))) at ∙ set_here line slot (Some (line_at class dim)) ∙ ap (λ (x : ℕ). Some (line_at x dim)) (sym one))
+          ])
+          (λ u is. elim (look line slot (Some (line_at class dim)) u (Some (line_at c is.0)) is.2) [
+            | inl mine ↦ inr mine.0
+            | inr old ↦ inl (is.0, is.1, old.1)
+          ])
+          (k.counted c within)
+      | inr away ↦
+          subst (IsCount (IsOfClass (now (Some (line_at class dim))) c) (length nodes)) (sym (others c away))
+          (count_alike (IsOfClass line c) (IsOfClass (now (Some (line_at class dim))) c) (length nodes) (count_in counts c) (kept c)
+          (λ u is. elim (look line slot (Some (line_at class dim)) u (Some (line_at c is.0)) is.2) [
+            | inl mine ↦ absurd (away (sym (one_class class dim c is.0 low is.1 (same mine.1))))
+            | inr old ↦ (is.0, is.1, old.1)
+          ])
+          (k.counted c within))
+    ]);
   }
+    where
+      kept : (c u : ℕ) → IsOfClass line c u → IsOfClass (now (Some (line_at class dim))) c u
+      kept c u is = (is.0, is.1, set_else line slot (Some (line_at class dim)) u (λ at. none_is_some (sym free ∙ sym (ap line at) ∙ is.2)) ∙ is.2)
 
   -- a slot left a line
-  pub shown_left : (to : Bool) → AreLines new made (set line slot None) → flag_in flags class ≡ to → (to ≡ false → HasNoneOf (set line slot None) class)
-      → ShowsLines new made flags (set line slot None)
-  shown_left to are here none_of = record {
+  pub shown_left : slot < length nodes → line slot ≡ Some (line_at class dim) → AreLines new made (set line slot None) → count_in counts class ≡ count_in after class + 1
+      → ShowsLines new made after (set line slot None)
+  shown_left inside was are here = record {
     lines = are;
     queues_count = count ∙ k.queues_count;
-    used_count = flags_count ∙ k.used_count;
-    unused = λ c within is d u few on. elim (cases_eq c class) [
-      | inl one ↦ none_of (sym here ∙ sym (ap (flag_in flags) one) ∙ is) d u few (subst (λ (x : ℕ). set line slot None u ≡ Some (line_at x d)) one on)
-      | inr away ↦ elim (look line slot None u (Some (line_at c d)) on) [
-        | inl mine ↦ none_is_some mine.1
-        | inr old ↦ k.unused c within (sym (others c away) ∙ is) d u few old.1
-      ]
-    ];
+    counts_count = counts_count ∙ k.counts_count;
+    counted = λ c within. subst (λ (n : ℕ). IsCount (IsOfClass (now None) c) n (count_in after c)) (sym nodes_count) (elim (cases_eq c class) [
+      | inl one ↦
+          let less = count_without (IsOfClass line c) slot (length nodes) (count_in counts c) inside (dim, low, was ∙ ap (λ (x : ℕ). Some (line_at x dim)) (sym one)) (k.counted c within) in
+          let total : count_in counts c ≡ less.0 + 1 = less.1 in
+          let mine : count_in counts c ≡ count_in after c + 1 = ap (count_in counts) one ∙ here ∙ ap (λ (x : ℕ). count_in after x + 1) (sym one) in
+          let right : less.0 ≡ count_in after c = omega (arith, total, mine) in
+          count_alike (λ u. IsOfClass line c u × (u ≢ slot)) (IsOfClass (now None) c) (length nodes) (count_in after c)
+          (λ u has. (has.0.0, has.0.1, set_else line slot None u has.1 ∙ has.0.2))
+          (λ u is. elim (look line slot None u (Some (line_at c is.0)) is.2) [
+            | inl mine ↦ absurd (none_is_some mine.1)
+            | inr old ↦ ((is.0, is.1, old.1), old.0)
+          ])
+          (subst (IsCount (λ u. IsOfClass line c u × (u ≢ slot)) (length nodes)) right less.2)
+      | inr away ↦
+          subst (IsCount (IsOfClass (now None) c) (length nodes)) (sym (others c away))
+          (count_alike (IsOfClass line c) (IsOfClass (now None) c) (length nodes) (count_in counts c)
+          (λ u is. (is.0, is.1, set_else line slot None u (λ at. away (one_class c is.0 class dim is.1 low (same (sym is.2 ∙ ap line at ∙ was)))) ∙ is.2))
+          (λ u is. elim (look line slot None u (Some (line_at c is.0)) is.2) [
+            | inl mine ↦ absurd (none_is_some mine.1)
+            | inr old ↦ (is.0, is.1, old.1)
+          ])
+          (k.counted c within))
+    ]);
   }
 
 -- the queues rest while the node of a slot in no line changes
@@ -113,12 +173,6 @@ rest old new queues line slot law len others are none = record {
         all = is.all;
       });
 }
-
--- an empty queue has no slot of its line
-pub none_in_line : (nodes : List NodeData) (queues : List QueueData) (line : ℕ → Option ℕ) (q : ℕ) → q < length queues → AreLines nodes queues line
-    → ((slots : List ℕ) → IsQueue nodes (queue_in queues q) slots → slots ≡ []) → (u : ℕ) → line u ≡ Some q → ⊥
-none_in_line nodes queues line q inside are empty u on =
-    (let is = are.each q inside in subst (λ (xs : List ℕ). Has xs u) (empty is.slots is.is_queue) (is.all u on))
 
 -- a node before its first use
 fresh_node : NodeData

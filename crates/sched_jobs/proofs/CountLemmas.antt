@@ -1,20 +1,22 @@
 -- Counts of slots are counts of jobs.
-use Rattle.std.proofs.Common.{◌≡◌, ℕ, ◌+◌, ◌*◌, ◌<◌, ◌≤◌, ◌⊎◌, inl, inr, Some, None, sym, ◌∙◌, ap, subst, arith}
+use Rattle.std.proofs.Common.{◌≡◌, ◌≢◌, ℕ, ◌+◌, ◌*◌, ◌<◌, ◌≤◌, ◌⊎◌, inl, inr, Some, None, sym, ◌∙◌, ap, subst, arith}
 use Rattle.cube_shape.specs.declared.limits.TheConstants.{MAX_BITMAP_DIM}
 use Rattle.region_bits.specs.Count.{IsCount}
 use Rattle.wait_queue.specs.Nodes.{key_of}
 use Rattle.sched_law.specs.declared.job.Place.TheVariants.{Waiting}
 use Rattle.sched_law.specs.declared.job.SchedWait.{SchedWait}
+use Rattle.std.proofs.lemmas.Bool.{cases_lt}
+use Rattle.sched_law.specs.Policy.{Precedes}
 use Rattle.sched_law.specs.State.{Sched}
 use Rattle.sched_law.proofs.SetLemmas.{wait_is}
 use Rattle.sched_jobs.specs.declared.lines.TheConstants.{CLASSES}
 use Rattle.sched_jobs.specs.declared.jobs.Jobs.{Jobs}
 use Rattle.sched_jobs.specs.Slots.{IsPresent, line_at, line_of, place_in}
 use Rattle.sched_jobs.specs.Shows.{ShowsJobs}
-use Rattle.sched_jobs.specs.Counts.{DoesWait, WaitsBefore}
+use Rattle.sched_jobs.specs.Counts.{DoesWait, WaitsBefore, WaitsUpTo}
 use Rattle.sched_jobs.specs.Inner.Numbers.{HasKeyFrom, HasNumbers}
 use Rattle.sched_jobs.proofs.SlotLemmas.{in_line, in_line_present}
-use Rattle.sched_jobs.proofs.NumberLemmas.{count_alike, count_both}
+use Rattle.sched_jobs.proofs.NumberLemmas.{count_alike, count_both, count_without}
 
 module _ (w : Sched) (jobs : Jobs) (shows : ShowsJobs w jobs) where
   -- the numbers of waiting jobs
@@ -112,3 +114,59 @@ module _ (w : Sched) (jobs : Jobs) (shows : ShowsJobs w jobs) where
         subst (λ (n : ℕ). IsCount (WaitsBefore w (key_of jobs.lines.nodes.items slot) wait.job) n sum) (sym shows.0)
         (count_alike (λ i. IsLow i ⊎ IsOwn i) (WaitsBefore w (key_of jobs.lines.nodes.items slot) wait.job) jobs.next sum to from
         (count_both IsLow IsOwn jobs.next lower own sum low_apart total lows owns))
+
+  -- the lines up to a class have the waiting jobs up to it
+  pub up_to_counted : (class count : ℕ) → IsCount (HasKeyFrom jobs.lines.nodes.items (λ u. line_of (place_in jobs.slots.items u)) 0 ((class + 1) * (MAX_BITMAP_DIM + 1)) None) jobs.next count
+      → IsCount (WaitsUpTo w class) w.next count
+  up_to_counted class count is =
+      subst (λ (n : ℕ). IsCount (WaitsUpTo w class) n count) (sym shows.0)
+      (count_alike (HasKeyFrom jobs.lines.nodes.items (λ u. line_of (place_in jobs.slots.items u)) 0 ((class + 1) * (MAX_BITMAP_DIM + 1)) None) (WaitsUpTo w class) jobs.next count
+      (λ i has.
+      let job = job_of has.3.0 has.0 i has.3.1 has.3.2 in
+      let less : has.0 < (class + 1) * (MAX_BITMAP_DIM + 1) = has.2 in
+      let at : line_at job.0.job.class job.0.job.dim ≡ has.0 = job.2 in
+      (job.0, job.1, omega (arith, less, at)))
+      (λ i has.
+      let at = slot_of i has.0 has.1 in
+      let few : has.0.job.class ≤ class = has.2 in
+      let low : has.0.job.dim ≤ MAX_BITMAP_DIM = at.4 in
+      (line_at has.0.job.class has.0.job.dim, omega arith, omega (arith, few, low), (at.0, at.1, at.2, tt)))
+      is)
+
+  -- the job that was submitted last is not before itself
+  pub last_counted : (slot : ℕ) (wait : SchedWait) (count : ℕ) → place_in jobs.slots.items slot ≡ Waiting wait → key_of jobs.lines.nodes.items slot + 1 ≡ jobs.next
+      → IsCount (WaitsUpTo w wait.job.class) w.next count → (before : ℕ) × (count ≡ before + 1) × IsCount (WaitsBefore w (key_of jobs.lines.nodes.items slot) wait.job) w.next before
+  last_counted slot wait count waits last is =
+      let present : IsPresent (place_in jobs.slots.items slot) = subst IsPresent (sym waits) tt in
+      let next = shows.0 in
+      let mine : w.place (key_of jobs.lines.nodes.items slot) ≡ Waiting wait = shows.1.holds slot present ∙ waits in
+      let less = count_without (WaitsUpTo w wait.job.class) (key_of jobs.lines.nodes.items slot) w.next count (omega (arith, last, next)) (wait, mine, omega arith) is in (
+        less.0,
+        less.1,
+        count_alike (λ i. WaitsUpTo w wait.job.class i × (i ≢ key_of jobs.lines.nodes.items slot)) (WaitsBefore w (key_of jobs.lines.nodes.items slot) wait.job) w.next less.0
+            (λ i has. (has.0.0, has.0.1, before i has))
+            (λ i has. elim has.2 [
+              | inl lower ↦ (
+                (has.0, has.1, omega (arith, lower)),
+                λ same. (
+                    let one : has.0 ≡ wait = wait_is (sym has.1 ∙ ap w.place same ∙ mine) in
+                    let class : has.0.job.class ≡ wait.job.class = ap (λ (x : SchedWait). x.job.class) one in
+                    omega (arith, lower, class)),
+              )
+              | inr equal ↦ (let class : has.0.job.class ≡ wait.job.class = equal.0 in let earlier : i < key_of jobs.lines.nodes.items slot = equal.1 in
+                  ((has.0, has.1, omega (arith, class)), λ same. omega (arith, earlier, same)))
+            ])
+            less.2,
+      )
+    where
+      before : (i : ℕ) → (has : WaitsUpTo w wait.job.class i × (i ≢ key_of jobs.lines.nodes.items slot)) → Precedes i has.0.0.job (key_of jobs.lines.nodes.items slot) wait.job
+      before i has =
+          let found = slot_of i has.0.0 has.0.1 in
+          let number : key_of jobs.lines.nodes.items found.0 ≡ i = found.2 in
+          let inside : key_of jobs.lines.nodes.items found.0 < jobs.next = numbers.before found.0 (line_at has.0.0.job.class has.0.0.job.dim) found.1 in
+          let few : has.0.0.job.class ≤ wait.job.class = has.0.2 in
+          let other = has.1 in
+          elim (cases_lt has.0.0.job.class wait.job.class) [
+            | inl lower ↦ inl lower
+            | inr same ↦ inr (omega (arith, few, same), omega (arith, number, inside, last, other))
+          ]

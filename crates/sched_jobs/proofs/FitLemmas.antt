@@ -1,5 +1,5 @@
 -- The least keys of lines, dimension by dimension, and class by class.
-use Rattle.std.proofs.Common.{◌≡◌, ◌≢◌, ℕ, ◌+◌, ◌-◌, ◌<◌, ◌≤◌, ◌⊎◌, inl, inr, Bool, false, List, Option, Some, None, IfSome, IfNone, length, refl, sym, ap, subst, arith}
+use Rattle.std.proofs.Common.{◌≡◌, ◌≢◌, ℕ, ◌+◌, ◌-◌, ◌<◌, ◌≤◌, ◌⊎◌, inl, inr, List, Option, Some, None, IfSome, IfNone, length, refl, sym, ap, subst, arith}
 use Rattle.std.proofs.lemmas.Bool.{cases_eq, cases_lt}
 use Rattle.cube_shape.specs.declared.limits.TheConstants.{MAX_BITMAP_DIM}
 use Rattle.wait_queue.specs.declared.nodes.QueueNode.{QueueNode as NodeData}
@@ -8,8 +8,9 @@ use Rattle.wait_queue.specs.Nodes.{estimate_of, key_of}
 use Rattle.sched_jobs.specs.declared.lines.TheConstants.{CLASSES}
 use Rattle.sched_jobs.specs.declared.search.Wanted.{Wanted}
 use Rattle.sched_jobs.specs.Slots.{line_at}
-use Rattle.sched_jobs.specs.Lines.{AreLines, ShowsLines, flag_in}
+use Rattle.sched_jobs.specs.Lines.{AreLines, ShowsLines, count_in}
 use Rattle.sched_jobs.specs.Inner.Joins.{IsFirstIn, IsFirstWithin}
+use Rattle.sched_jobs.proofs.AlikeLemmas.{none_of_class}
 use Rattle.sched_jobs.specs.Inner.Search.{IsChosen, IsFit, IsFitBelow, IsFitIn, IsLeast, IsOlder}
 
 -- where there is no other, the one stays
@@ -134,10 +135,11 @@ best_inside nodes (Some u) None answer first second is = subst (λ (a : Option �
 best_inside nodes (Some u) (Some v) answer first second (inl is) = subst (λ (a : Option ℕ). IfSome a (λ u. u < length nodes)) (sym is.0) first
 best_inside nodes (Some u) (Some v) answer first second (inr is) = subst (λ (a : Option ℕ). IfSome a (λ u. u < length nodes)) (sym is.0) second
 
--- none of a class is wanted whose flag is not set
-pub unused_fits : (nodes : List NodeData) (queues : List QueueData) (used : List Bool) (line : ℕ → Option ℕ) (wanted : Wanted) (class : ℕ) → class < CLASSES
-    → flag_in used class ≡ false → ShowsLines nodes queues used line → IsLeast nodes (IsFitIn nodes line wanted class) None
-unused_fits nodes queues used line wanted class within is shown = λ u has. shown.unused class within is has.0 u (let low : has.0 < MAX_BITMAP_DIM + 1 = has.1 in omega (arith, low)) has.2.0
+-- none of a class without slots is wanted
+pub unused_fits : (nodes : List NodeData) (queues : List QueueData) (counts : List ℕ) (line : ℕ → Option ℕ) (wanted : Wanted) (class : ℕ) → class < CLASSES
+    → count_in counts class ≡ 0 → ShowsLines nodes queues counts line → IsLeast nodes (IsFitIn nodes line wanted class) None
+unused_fits nodes queues counts line wanted class within is shown = λ u has.
+    none_of_class nodes queues counts line class within shown is u (has.0, (let low : has.0 < MAX_BITMAP_DIM + 1 = has.1 in omega (arith, low)), has.2.0)
 
 -- the first class with a slot that is wanted
 pub chosen : (nodes : List NodeData) (line : ℕ → Option ℕ) (wanted : Wanted) (class slot : ℕ) (answer : Option ℕ) → answer ≡ Some slot → class < CLASSES

@@ -9,6 +9,7 @@ pub mod TableLemmas
 pub mod FitLemmas
 pub mod NumberLemmas
 pub mod CountLemmas
+pub mod ClassLemmas
 pub mod ChosenLemmas
 pub mod ShowLemmas
 pub mod SumLemmas

@@ -30,7 +30,7 @@ pub waiting_changed : (slots new : List Slot) (lines after : LineTable) (at gene
     → ((wait : SchedWait) → p ≡ Waiting wait → (rank_in after at ≡ rank_of wait.job.estimate) × (wait.job.class < CLASSES) × (wait.job.dim ≤ MAX_BITMAP_DIM))
     → ShowsWaiting new after
 waiting_changed slots new lines after at generation p k put count shown ranks own = record {
-  shown = shown_alike after.nodes.items after.queues.items after.used.items (set (λ u. line_of (place_in slots u)) at (line_of p)) (λ u. line_of (place_in new u)) shown alike_at;
+  shown = shown_alike after.nodes.items after.queues.items after.counts.items (set (λ u. line_of (place_in slots u)) at (line_of p)) (λ u. line_of (place_in new u)) shown alike_at;
   count = count ∙ k.count ∙ sym put.len;
   rank = λ u wait waits. elim (cases_eq u at) [
     | inl one ↦ ap (rank_in after) one ∙ (own wait (mine u one wait waits)).0
@@ -54,7 +54,7 @@ waiting_changed slots new lines after at generation p k put count shown ranks ow
 
 -- a slot whose line stays
 pub set_same : (slots : List Slot) (lines : LineTable) (line : ℕ → Option ℕ) (at : ℕ) (to : Option ℕ) → HasLines lines line → line at ≡ to → HasLines lines (set line at to)
-set_same slots lines line at to shown is = shown_alike lines.nodes.items lines.queues.items lines.used.items line (set line at to) shown (λ u. elim (cases_eq u at) [
+set_same slots lines line at to shown is = shown_alike lines.nodes.items lines.queues.items lines.counts.items line (set line at to) shown (λ u. elim (cases_eq u at) [
   | inl one ↦ ap (set line at to) one ∙ set_here line at to ∙ sym is ∙ sym (ap line one)
   | inr other ↦ set_else line at to u other
 ])
@@ -72,7 +72,7 @@ may_join f next first slots lines at slot k waiting absent = record {
 pub initial_waiting : (slots : List Slot) (lines : LineTable) (n : ℕ) → slots ≡ replicate n unused → length slots ≡ n
     → slots_of lines ≡ n → HasLines lines (λ u. None) → ShowsWaiting slots lines
 initial_waiting slots lines n are len count shown = record {
-  shown = shown_alike lines.nodes.items lines.queues.items lines.used.items (λ u. None) (λ u. line_of (place_in slots u)) shown (λ u. ap line_of (absent u));
+  shown = shown_alike lines.nodes.items lines.queues.items lines.counts.items (λ u. None) (λ u. line_of (place_in slots u)) shown (λ u. ap line_of (absent u));
   count = count ∙ sym len;
   rank = λ u wait waits. absurd (absent_waits (sym (absent u) ∙ waits));
   class = λ u wait waits. absurd (absent_waits (sym (absent u) ∙ waits));

@@ -14,6 +14,10 @@ use Rattle.sched_jobs.specs.Slots.{IsPresent, place_in}
 abbrev pub DoesWait : Sched → ℕ → Type 0
 DoesWait w i = (other : SchedWait) × Waits w i other
 
+-- Job `i` waits, and is of a class, or of a lower one.
+abbrev pub WaitsUpTo : Sched → ℕ → ℕ → Type 0
+WaitsUpTo w class i = (other : SchedWait) × Waits w i other × (other.job.class ≤ class)
+
 -- Job `i` runs.
 abbrev pub DoesRun : Sched → ℕ → Type 0
 DoesRun w i = (run : SchedRun) × Runs w i run

@@ -1,6 +1,7 @@
 -- Queues of waiting slots.
-use Rattle.std.specs.Prelude.{◌≡◌, ℕ, ◌+◌, ◌*◌, ◌<◌, ◌≤◌, Bool, false, List, Option, Some, length, slice_index_or}
+use Rattle.std.specs.Prelude.{◌≡◌, ℕ, ◌+◌, ◌*◌, ◌<◌, ◌≤◌, List, Option, Some, length, slice_index_or}
 use Rattle.cube_shape.specs.declared.limits.TheConstants.{MAX_BITMAP_DIM}
+use Rattle.region_bits.specs.Count.{IsCount}
 use Rattle.wait_queue.specs.declared.nodes.TheConstants.{MAX_SLOTS}
 use Rattle.wait_queue.specs.declared.nodes.QueueNode.{QueueNode as NodeData}
 use Rattle.wait_queue.specs.declared.queues.Queue.{Queue as QueueData}
@@ -27,25 +28,25 @@ pub record AreLines (nodes : List NodeData) (queues : List QueueData) (line : �
   pub limit : length nodes ≤ MAX_SLOTS
   pub each : (q : ℕ) → q < length queues → IsLine nodes queues line q
 
--- No slot is in a line of the class.
-abbrev pub HasNoneOf : (ℕ → Option ℕ) → ℕ → Type 0
-HasNoneOf line class = (dim u : ℕ) → dim ≤ MAX_BITMAP_DIM → line u ≡ Some (line_at class dim) → ⊥
+-- A slot is in a line of the class.
+abbrev pub IsOfClass : (ℕ → Option ℕ) → ℕ → ℕ → Type 0
+IsOfClass line class u = (dim : ℕ) × (dim ≤ MAX_BITMAP_DIM) × (line u ≡ Some (line_at class dim))
 
--- Whether a class may have waiting jobs.
-abbrev pub flag_in : List Bool → ℕ → Bool
-flag_in used class = slice_index_or used class false
+-- The count of a class.
+abbrev pub count_in : List ℕ → ℕ → ℕ
+count_in counts class = slice_index_or counts class 0
 
--- There is a queue for each class and dimension, which has the slots of its line. A class whose
--- flag is not set has none.
-pub record ShowsLines (nodes : List NodeData) (queues : List QueueData) (used : List Bool) (line : ℕ → Option ℕ) : Type 0 where
+-- There is a queue for each class and dimension, which has the slots of its line. The slots of each
+-- class are counted.
+pub record ShowsLines (nodes : List NodeData) (queues : List QueueData) (counts : List ℕ) (line : ℕ → Option ℕ) : Type 0 where
   pub lines : AreLines nodes queues line
   pub queues_count : length queues ≡ CLASSES * (MAX_BITMAP_DIM + 1)
-  pub used_count : length used ≡ CLASSES
-  pub unused : (class : ℕ) → class < CLASSES → flag_in used class ≡ false → HasNoneOf line class
+  pub counts_count : length counts ≡ CLASSES
+  pub counted : (class : ℕ) → class < CLASSES → IsCount (IsOfClass line class) (length nodes) (count_in counts class)
 
 -- The queues of a table have these lines.
 abbrev pub HasLines : LineTable → (ℕ → Option ℕ) → Type 0
-HasLines lines line = ShowsLines lines.nodes.items lines.queues.items lines.used.items line
+HasLines lines line = ShowsLines lines.nodes.items lines.queues.items lines.counts.items line
 
 -- The key of a slot: the number of its job, or, if it is free, its link.
 abbrev pub key_in : LineTable → ℕ → ℕ
@@ -59,6 +60,6 @@ rank_in lines u = estimate_of lines.nodes.items u
 abbrev pub slots_of : LineTable → ℕ
 slots_of lines = length lines.nodes.items
 
--- How many words of 8 bytes the queues of this many slots take: the nodes, the queues, the flags.
+-- How many words of 8 bytes the queues of this many slots take: the nodes, the queues, the counts.
 abbrev pub table_words : ℕ → ℕ
-table_words capacity = 5 * capacity + (CLASSES * (MAX_BITMAP_DIM + 1) + 1)
+table_words capacity = 5 * capacity + (CLASSES * (MAX_BITMAP_DIM + 1) + CLASSES)

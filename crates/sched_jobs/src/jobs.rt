@@ -8,7 +8,7 @@ ghost use Rattle.sched_law.specs.declared.job.SchedWait.{SchedWait as WaitData};
 ghost use Rattle.sched_law.specs.declared.job.SchedRun.{SchedRun as RunData};
 ghost use Rattle.sched_law.specs.State.{Sched, cancel, end_after, finish, initial, pass, set, start, submit};
 ghost use Rattle.region_bits.specs.Count.{IsCount};
-ghost use Rattle.sched_jobs.specs.Counts.{DoesRun, DoesWait, HasKnownEnd, HasNoneUsed, IsNextUsed, WaitsBefore};
+ghost use Rattle.sched_jobs.specs.Counts.{DoesRun, DoesWait, HasKnownEnd, HasNoneUsed, IsNextUsed, WaitsBefore, WaitsUpTo};
 ghost use Rattle.sched_jobs.specs.Sums.{asked};
 ghost use Rattle.sched_jobs.specs.Lines.{HasLines, rank_in, slots_of};
 ghost use Rattle.sched_jobs.specs.Inner.Put.{HasPut};
@@ -16,7 +16,7 @@ ghost use Rattle.fixed_vec.specs.Spending.{HasWords, Spends};
 ghost use Rattle.sched_jobs.specs.Shows.{HasGenerations, HasJob, HasNoneWaiting, HasOtherJobs, HasOthers, IsFirstWaiting, IsRetired, ShowsJobs, ShowsSlots, arrival_of, capacity_of, generation_of, job_words, place_of, ticket_of};
 
 use crate::line_table::LineTable;
-use crate::lines::{CLASSES, DIMS, LINES};
+use crate::lines::{CLASSES, DIMS};
 use crate::search::Wanted;
 use crate::slots::{
     MAX_GENERATION, Slot, count_known, generation_at, is_present, next_present, place_at,
@@ -159,7 +159,18 @@ impl Jobs {
         requires { (w : Sched) × ShowsJobs w self.now }
         ensures { (w : Sched) → ShowsJobs w self.now → IsCount (DoesWait w) w.next result }
     {
-        self.lines.count(0, LINES, None)
+        self.lines.count_classes(CLASSES as usize)
+    }
+
+    /// Returns how many jobs of a class, or of a lower one, wait.
+    pub fn waiting_up_to(&self, class: u8) -> u64
+        requires class { class < CLASSES }
+        requires shows { (w : Sched) × ShowsJobs w self.now }
+        ensures count { (w : Sched) → ShowsJobs w self.now
+            → IsCount (WaitsUpTo w class) w.next result }
+        ensures few { result < LAST }
+    {
+        self.lines.count_classes(class as usize + 1)
     }
 
     /// Returns how many jobs run.
@@ -200,10 +211,28 @@ impl Jobs {
         let Place::Waiting(wait) = place_at(&self.slots, slot) else {
             return 0;
         };
-        let first = wait.job.class as usize * DIMS;
-        let lower = self.lines.count(0, first, None);
+        let class = wait.job.class as usize;
+        let first = class * DIMS;
+        let lower = self.lines.count_classes(class);
         let number = self.lines.key(slot);
-        lower + self.lines.count(first, first + DIMS, Some(number))
+        lower + self.lines.count(first, first + DIMS, number)
+    }
+
+    /// Returns how many waiting jobs come before that of a slot, which was submitted last.
+    pub fn count_before_last(&self, slot: u32) -> u64
+        requires inside { slot < capacity_of self.now }
+        requires job { (wait : WaitData) × (place_of self.now slot ≡ Waiting wait) }
+        requires last { arrival_of self.now slot + 1 ≡ self.now.next }
+        requires shows { (w : Sched) × ShowsJobs w self.now }
+        ensures count { (w : Sched) (wait : WaitData) → ShowsJobs w self.now
+            → place_of self.now slot ≡ Waiting wait
+            → IsCount (WaitsBefore w (arrival_of self.now slot) wait.job) w.next result }
+        ensures few { result < LAST }
+    {
+        let Place::Waiting(wait) = place_at(&self.slots, slot) else {
+            return 0;
+        };
+        self.waiting_up_to(wait.job.class) - 1
     }
 
     /// Returns the first slot from one on that has a job.

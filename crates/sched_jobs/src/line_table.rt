@@ -1,19 +1,20 @@
 //! The queues of the waiting jobs of a table.
 
-ghost use Rattle.std.specs.Prelude.{◌≡◌, ◌≢◌, ℕ, ◌+◌, ◌*◌, ◌^◌, ◌<◌, ◌≤◌, Bool, Option, Some, None, IsOk, IfOk, OnOk, length};
+ghost use Rattle.std.specs.Prelude.{◌≡◌, ◌≢◌, ℕ, ◌+◌, ◌*◌, ◌^◌, ◌<◌, ◌≤◌, Option, Some, None, IsOk, IfOk, OnOk, length};
+ghost use Rattle.sched_law.specs.declared.job.TheConstants.{NEVER as LAST};
 ghost use Rattle.sched_law.specs.State.{set};
 ghost use Rattle.sched_jobs.specs.Slots.{before_of, line_at, next_after, rank_of};
 ghost use Rattle.fixed_vec.specs.Spending.{HasWords, Spends};
-ghost use Rattle.sched_jobs.specs.Lines.{HasLines, flag_in, key_in, rank_in, slots_of, table_words};
+ghost use Rattle.sched_jobs.specs.Lines.{HasLines, count_in, key_in, rank_in, slots_of, table_words};
 ghost use Rattle.sched_jobs.specs.Inner.Joins.{MayJoin};
 ghost use Rattle.sched_jobs.specs.Inner.Put.{HasLink};
 ghost use Rattle.region_bits.specs.Count.{IsCount};
 ghost use Rattle.sched_jobs.specs.Inner.Numbers.{HasKeyFrom, HasNumbers};
 ghost use Rattle.sched_jobs.specs.Inner.Search.{IsChosen};
 
-use crate::counts::total;
+use crate::counts::{total, total_of_classes};
 use crate::lines::{
-    CLASSES, DIMS, LINES, is_class_empty, join_line, key_at, leave_line, put_key, put_rank, rank_at,
+    CLASSES, DIMS, LINES, join_line, key_at, leave_line, put_key, put_rank, rank_at,
 };
 use crate::search::{Wanted, first_of_all};
 use cube_shape::MAX_BITMAP_DIM;
@@ -27,8 +28,8 @@ use wait_queue::{MAX_SLOTS, Queue, QueueNode};
 pub struct LineTable {
     pub(crate) nodes: FixedVec<QueueNode>,
     pub(crate) queues: FixedVec<Queue>,
-    /// Whether a class may have waiting jobs.
-    pub(crate) used: FixedVec<bool>,
+    /// How many slots of each class wait.
+    pub(crate) counts: FixedVec<u64>,
 }
 
 // Returns the rank of an estimate: the largest number if it is not known.
@@ -50,13 +51,24 @@ fn line_number(job: &SchedJob) -> usize
     job.class as usize * DIMS + job.dim as usize
 }
 
-// Writes whether a class may have waiting jobs.
-fn set_flag(used: &mut [bool], class: usize, to: bool)
-    requires { class < length used.old }
-    ensures here { flag_in used.new class ≡ to }
-    ensures others { (c : ℕ) → c ≢ class → flag_in used.new c ≡ flag_in used.old c }
+// Counts one more slot of a class.
+fn count_one(counts: &mut [u64], class: usize)
+    requires class { class < length counts.old }
+    requires few { count_in counts.old class < LAST }
+    ensures here { count_in counts.new class ≡ count_in counts.old class + 1 }
+    ensures others { (c : ℕ) → c ≢ class → count_in counts.new c ≡ count_in counts.old c }
 {
-    used[class] = to;
+    counts[class] += 1;
+}
+
+// Counts one slot less of a class.
+fn discount_one(counts: &mut [u64], class: usize)
+    requires class { class < length counts.old }
+    requires some { 0 < count_in counts.old class }
+    ensures here { count_in counts.old class ≡ count_in counts.new class + 1 }
+    ensures others { (c : ℕ) → c ≢ class → count_in counts.new c ≡ count_in counts.old c }
+{
+    counts[class] -= 1;
 }
 
 impl LineTable {
@@ -72,11 +84,11 @@ impl LineTable {
     {
         let nodes = store.filled(QueueNode::UNUSED, capacity, 5 * capacity)?;
         let queues = store.filled(Queue::new(), LINES, LINES)?;
-        let used = store.filled(false, CLASSES as usize, 1)?;
+        let counts = store.filled(0, CLASSES as usize, CLASSES as usize)?;
         Ok(LineTable {
             nodes,
             queues,
-            used,
+            counts,
         })
     }
 
@@ -121,21 +133,34 @@ impl LineTable {
         ensures { (line : ℕ → Option ℕ) → HasLines self.now line
             → IsChosen self.now.nodes.items line wanted.now result }
     {
-        first_of_all(&self.nodes, &self.queues, &self.used, wanted)
+        first_of_all(&self.nodes, &self.queues, &self.counts, wanted)
     }
 
-    /// Returns the number of slots in the lines from `first` on, up to `end`, which is left out. If
-    /// there is a bound, only keys below it count.
-    pub(crate) fn count(&self, first: usize, end: usize, bound: Option<u64>) -> u64
+    /// Returns the number of slots with a key below the bound in the lines from `first` on, up to
+    /// `end`, which is left out.
+    pub(crate) fn count(&self, first: usize, end: usize, bound: u64) -> u64
         requires first { first ≤ end }
         requires end { end ≤ LINES }
         requires lines { (line : ℕ → Option ℕ) × HasLines self.now line }
         ensures few { result ≤ LINES * 2 ^ 32 }
         ensures count { (line : ℕ → Option ℕ) (next : ℕ) → HasLines self.now line
             → HasNumbers self.now.nodes.items line next
-            → IsCount (HasKeyFrom self.now.nodes.items line first end bound) next result }
+            → IsCount (HasKeyFrom self.now.nodes.items line first end (Some bound)) next result }
     {
         total(&self.nodes, &self.queues, first, end, bound)
+    }
+
+    /// Returns the number of slots in the lines of the classes below `end`.
+    pub(crate) fn count_classes(&self, end: usize) -> u64
+        requires end { end ≤ CLASSES }
+        requires lines { (line : ℕ → Option ℕ) × HasLines self.now line }
+        ensures few { result ≤ CLASSES * 2 ^ 32 }
+        ensures count { (line : ℕ → Option ℕ) (next : ℕ) → HasLines self.now line
+            → HasNumbers self.now.nodes.items line next
+            → IsCount (HasKeyFrom self.now.nodes.items line 0 (end * (MAX_BITMAP_DIM + 1)) None)
+            next result }
+    {
+        total_of_classes(&self.counts, end)
     }
 
     /// Appends a slot to the line of its job, with a key above all keys there.
@@ -157,7 +182,7 @@ impl LineTable {
         let at = line_number(job);
         let estimate = rank(job.estimate);
         join_line(&mut self.nodes, &mut self.queues, at, slot, key, estimate);
-        set_flag(&mut self.used, job.class as usize, true);
+        count_one(&mut self.counts, job.class as usize);
     }
 
     /// Removes a slot from the line of its job.
@@ -175,9 +200,7 @@ impl LineTable {
     {
         let at = line_number(job);
         leave_line(&mut self.nodes, &mut self.queues, at, slot);
-        let class = job.class as usize;
-        let is_used = !is_class_empty(&self.queues, class);
-        set_flag(&mut self.used, class, is_used);
+        discount_one(&mut self.counts, job.class as usize);
     }
 
     /// Writes the key of a slot that is in no line.

@@ -1,17 +1,15 @@
 //! Waiting slots in queues, one for each class and dimension.
 
-ghost use Rattle.std.specs.Prelude.{◌≡◌, ◌≢◌, ℕ, ◌+◌, ◌<◌, ◌≤◌, List, Option, Some, None, IfSome, IfNone, IsTrue, length};
-ghost use Rattle.wait_queue.specs.declared.nodes.QueueNode.{QueueNode as NodeData};
+ghost use Rattle.std.specs.Prelude.{◌≡◌, ◌≢◌, ℕ, ◌+◌, ◌<◌, ◌≤◌, List, Option, Some, None, IfSome, IfNone, length};
 ghost use Rattle.wait_queue.specs.declared.queues.Queue.{Queue as QueueData};
 ghost use Rattle.wait_queue.specs.Nodes.{estimate_of, key_of};
 ghost use Rattle.sched_law.specs.State.{set};
-ghost use Rattle.sched_jobs.specs.Slots.{line_at};
-ghost use Rattle.sched_jobs.specs.Lines.{AreLines, HasNoneOf};
+ghost use Rattle.sched_jobs.specs.Lines.{AreLines};
 ghost use Rattle.sched_jobs.specs.Inner.Joins.{CanJoin, IsFirstIn, IsFirstWithin};
 
 use cube_shape::MAX_BITMAP_DIM;
 use wait_queue::{
-    Queue, QueueNode, is_empty, oldest, oldest_within, push, queues_rest_on_their_slots, remove,
+    Queue, QueueNode, oldest, oldest_within, push, queues_rest_on_their_slots, remove,
 };
 
 /// The number of classes. The class of a job is below it.
@@ -127,18 +125,4 @@ pub(crate) fn first_within(
         → IfNone result ((u : ℕ) → line u ≡ Some at → limit < estimate_of nodes.now u) }
 {
     oldest_within(nodes, &queues[at], limit)
-}
-
-/// Returns whether no slot is in a line of a class.
-pub(crate) fn is_class_empty(queues: &[Queue], class: usize) -> bool
-    requires { line_at class MAX_BITMAP_DIM < length queues.now }
-    ensures { IsTrue result → (nodes : List NodeData) (line : ℕ → Option ℕ)
-        → AreLines nodes queues.now line → HasNoneOf line class }
-{
-    for dim in 0..DIMS {
-        if !is_empty(&queues[class * DIMS + dim]) {
-            return false;
-        }
-    }
-    true
 }

@@ -1,6 +1,6 @@
 //! The first of the waiting jobs, by their queues.
 
-ghost use Rattle.std.specs.Prelude.{◌≡◌, ℕ, ◌+◌, ◌*◌, ◌<◌, ◌≤◌, Bool, List, Option, Some, None, IfSome, IfNone, IsFalse, IsTrue, length};
+ghost use Rattle.std.specs.Prelude.{◌≡◌, ℕ, ◌+◌, ◌*◌, ◌<◌, ◌≤◌, List, Option, Some, None, IfSome, IfNone, IsFalse, IsTrue, length};
 ghost use Rattle.sched_law.specs.declared.job.SchedJob.{SchedJob as JobData};
 ghost use Rattle.sched_jobs.specs.Select.{IsWanted, IsWithin};
 ghost use Rattle.sched_jobs.specs.Slots.{line_at, rank_of};
@@ -122,16 +122,17 @@ fn first_of_class(
 fn first_if_used(
     nodes: &[QueueNode],
     queues: &[Queue],
-    used: &[bool],
+    counts: &[u64],
     class: usize,
     wanted: &Wanted,
 ) -> Option<u32>
     requires class { class < CLASSES }
-    requires lines { (line : ℕ → Option ℕ) × ShowsLines nodes.now queues.now used.now line }
-    ensures { (line : ℕ → Option ℕ) → ShowsLines nodes.now queues.now used.now line
+    requires lines { (line : ℕ → Option ℕ) × ShowsLines nodes.now queues.now counts.now line }
+    ensures { (line : ℕ → Option ℕ) → ShowsLines nodes.now queues.now counts.now line
         → IsLeast nodes.now (IsFitIn nodes.now line wanted.now class) result }
 {
-    if !used[class] {
+    let count = counts[class];
+    if count == 0 {
         return None;
     }
     first_of_class(nodes, queues, class, wanted)
@@ -141,15 +142,15 @@ fn first_if_used(
 pub(crate) fn first_of_all(
     nodes: &[QueueNode],
     queues: &[Queue],
-    used: &[bool],
+    counts: &[u64],
     wanted: &Wanted,
 ) -> Option<u32>
-    requires { (line : ℕ → Option ℕ) × ShowsLines nodes.now queues.now used.now line }
-    ensures { (line : ℕ → Option ℕ) → ShowsLines nodes.now queues.now used.now line
+    requires { (line : ℕ → Option ℕ) × ShowsLines nodes.now queues.now counts.now line }
+    ensures { (line : ℕ → Option ℕ) → ShowsLines nodes.now queues.now counts.now line
         → IsChosen nodes.now line wanted.now result }
 {
     for class in 0..CLASSES as usize {
-        if let Some(slot) = first_if_used(nodes, queues, used, class, wanted) {
+        if let Some(slot) = first_if_used(nodes, queues, counts, class, wanted) {
             return Some(slot);
         }
     }

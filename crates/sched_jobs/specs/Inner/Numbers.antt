@@ -1,5 +1,5 @@
 -- Counts of slots in lines, by their keys.
-use Rattle.std.specs.Prelude.{◌≡◌, ℕ, ◌<◌, ◌≤◌, List, Option, Some, None, length, nat_lt}
+use Rattle.std.specs.Prelude.{◌≡◌, ℕ, ◌<◌, ◌≤◌, List, Option, Some, None, nat_lt}
 use Rattle.std.specs.List.{count_by}
 use Rattle.wait_queue.specs.declared.nodes.QueueNode.{QueueNode as NodeData}
 use Rattle.wait_queue.specs.Nodes.{key_of}
@@ -9,10 +9,9 @@ abbrev pub IsBelow : Option ℕ → ℕ → Type 0
 IsBelow None i = Unit {0}
 IsBelow (Some bound) i = i < bound
 
--- The number of slots of a list with a key below the bound, if there is one.
-abbrev pub counted : List NodeData → Option ℕ → List ℕ → ℕ
-counted nodes None slots = length slots
-counted nodes (Some bound) slots = count_by (λ u. nat_lt (key_of nodes u) bound) slots
+-- The number of slots of a list with a key below the bound.
+abbrev pub counted : List NodeData → ℕ → List ℕ → ℕ
+counted nodes bound slots = count_by (λ u. nat_lt (key_of nodes u) bound) slots
 
 -- The keys of slots in lines are below a number, and each is that of one slot.
 pub record HasNumbers (nodes : List NodeData) (line : ℕ → Option ℕ) (next : ℕ) : Type 0 where

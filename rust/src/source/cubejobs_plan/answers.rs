@@ -122,3 +122,8 @@ fn before(scheduler: &Scheduler, slot: u32) -> u64 {
 pub(crate) fn answer_at(scheduler: &Scheduler, slot: u32) -> PlanJob {
     described(scheduler, slot, before(scheduler, slot))
 }
+
+/// Returns the answer about the job of a slot, which waits, and was submitted last.
+pub(crate) fn answer_at_last(scheduler: &Scheduler, slot: u32) -> PlanJob {
+    described(scheduler, slot, scheduler.before_last(slot))
+}

@@ -2,7 +2,7 @@
 //! How a job is submitted.
 
 use crate::source::cubejobs_plan::answer::PlanJob;
-use crate::source::cubejobs_plan::answers::{answer_at, refused};
+use crate::source::cubejobs_plan::answers::{answer_at_last, refused};
 use crate::source::cubejobs_plan::codes::{DONE, FULL, OUT_OF_RANGE};
 use crate::source::cubejobs_plan::request::PlanRequest;
 use crate::source::cube_shape::MAX_BITMAP_DIM;
@@ -50,5 +50,5 @@ pub(crate) fn submit(scheduler: &mut Scheduler, request: PlanRequest) -> PlanJob
     let Some(slot) = scheduler.submit(job_of(n, request)) else {
         return refused(FULL);
     };
-    answer_at(scheduler, slot)
+    answer_at_last(scheduler, slot)
 }

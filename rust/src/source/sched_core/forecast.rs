@@ -42,10 +42,9 @@ impl Core {
         precedes(&one.job, number, &other.job, self.jobs.arrival(second))
     }
 
-    /// Returns how many waiting jobs come before the waiting job of a slot. The reserved job comes
-    /// before all others.
-    pub(crate) fn before(&self, slot: u32) -> u64 {
-        let before = self.jobs.count_before(slot);
+    // Returns how many waiting jobs come before that of a slot, where `before` do in order. The
+    // reserved job comes before all others.
+    fn before_with(&self, slot: u32, before: u64) -> u64 {
         let Some(kept) = self.reserved else {
             return before;
         };
@@ -56,5 +55,16 @@ impl Core {
             return before;
         }
         before + 1
+    }
+
+    /// Returns how many waiting jobs come before the waiting job of a slot. The reserved job comes
+    /// before all others.
+    pub(crate) fn before(&self, slot: u32) -> u64 {
+        self.before_with(slot, self.jobs.count_before(slot))
+    }
+
+    /// Returns the same for the job that was submitted last.
+    pub(crate) fn before_last(&self, slot: u32) -> u64 {
+        self.before_with(slot, self.jobs.count_before_last(slot))
     }
 }

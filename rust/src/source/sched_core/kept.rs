@@ -189,6 +189,18 @@ impl Scheduler {
         self.core.before(slot)
     }
 
+    /// Returns the same for the job that was submitted last.
+    ///
+    /// # Clauses of the proved source
+    ///
+    /// - requires inside: `slot < slots_of self.now`
+    /// - requires job: `(wait : WaitData) × (job_place self.now slot ≡ Waiting wait)`
+    /// - requires last: `job_arrival self.now slot + 1 ≡ submitted_of self.now`
+    /// - ensures: `(w : Sched) (wait : WaitData) → ShowsCore w self.now → job_place self.now slot ≡ Waiting wait → IsCount (ComesBefore w (job_arrival self.now slot) wait.job) w.next result`
+    pub fn before_last(&self, slot: u32) -> u64 {
+        self.core.before_last(slot)
+    }
+
     /// Returns how many processors jobs hold.
     ///
     /// # Clauses of the proved source
@@ -236,6 +248,7 @@ impl Scheduler {
     /// - ensures generations: `IfSome result (λ slot. (u : ℕ) → u ≢ slot → job_generation self.new u ≡ job_generation self.old u)`
     /// - ensures place: `IfSome result (λ slot. job_place self.new slot ≡ Waiting (record { job = job; passed = 0 }))`
     /// - ensures arrival: `IfSome result (λ slot. job_arrival self.new slot ≡ submitted_of self.old)`
+    /// - ensures submitted: `IfSome result (λ slot. submitted_of self.new ≡ submitted_of self.old + 1)`
     /// - ensures others: `IfSome result (KeepsOthers self.old self.new)`
     /// - ensures shows: `(w : Sched) → ShowsCore w self.old → IfSome result (λ slot. ShowsCore (submit job w) self.new)`
     pub fn submit(&mut self, job: SchedJob) -> Option<u32> {

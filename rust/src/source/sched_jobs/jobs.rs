@@ -2,7 +2,7 @@
 //! The jobs of a scheduler as a value.
 
 use crate::source::sched_jobs::line_table::LineTable;
-use crate::source::sched_jobs::lines::{CLASSES, DIMS, LINES};
+use crate::source::sched_jobs::lines::{CLASSES, DIMS};
 use crate::source::sched_jobs::search::Wanted;
 use crate::source::sched_jobs::slots::{
     MAX_GENERATION, Slot, count_known, generation_at, is_present, next_present, place_at,
@@ -157,7 +157,19 @@ impl Jobs {
     /// - requires: `(w : Sched) × ShowsJobs w self.now`
     /// - ensures: `(w : Sched) → ShowsJobs w self.now → IsCount (DoesWait w) w.next result`
     pub fn waiting(&self) -> u64 {
-        self.lines.count(0, LINES, None)
+        self.lines.count_classes(CLASSES as usize)
+    }
+
+    /// Returns how many jobs of a class, or of a lower one, wait.
+    ///
+    /// # Clauses of the proved source
+    ///
+    /// - requires class: `class < CLASSES`
+    /// - requires shows: `(w : Sched) × ShowsJobs w self.now`
+    /// - ensures count: `(w : Sched) → ShowsJobs w self.now → IsCount (WaitsUpTo w class) w.next result`
+    /// - ensures few: `result < LAST`
+    pub fn waiting_up_to(&self, class: u8) -> u64 {
+        self.lines.count_classes(class as usize + 1)
     }
 
     /// Returns how many jobs run.
@@ -204,10 +216,28 @@ impl Jobs {
         let Place::Waiting(wait) = place_at(&self.slots, slot) else {
             return 0;
         };
-        let first = wait.job.class as usize * DIMS;
-        let lower = self.lines.count(0, first, None);
+        let class = wait.job.class as usize;
+        let first = class * DIMS;
+        let lower = self.lines.count_classes(class);
         let number = self.lines.key(slot);
-        lower + self.lines.count(first, first + DIMS, Some(number))
+        lower + self.lines.count(first, first + DIMS, number)
+    }
+
+    /// Returns how many waiting jobs come before that of a slot, which was submitted last.
+    ///
+    /// # Clauses of the proved source
+    ///
+    /// - requires inside: `slot < capacity_of self.now`
+    /// - requires job: `(wait : WaitData) × (place_of self.now slot ≡ Waiting wait)`
+    /// - requires last: `arrival_of self.now slot + 1 ≡ self.now.next`
+    /// - requires shows: `(w : Sched) × ShowsJobs w self.now`
+    /// - ensures count: `(w : Sched) (wait : WaitData) → ShowsJobs w self.now → place_of self.now slot ≡ Waiting wait → IsCount (WaitsBefore w (arrival_of self.now slot) wait.job) w.next result`
+    /// - ensures few: `result < LAST`
+    pub fn count_before_last(&self, slot: u32) -> u64 {
+        let Place::Waiting(wait) = place_at(&self.slots, slot) else {
+            return 0;
+        };
+        self.waiting_up_to(wait.job.class) - 1
     }
 
     /// Returns the first slot from one on that has a job.

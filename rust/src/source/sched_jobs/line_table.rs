@@ -1,9 +1,9 @@
 // Made from crates/sched_jobs/src/line_table.rt by checks/lib/erase.py. Change that file.
 //! The queues of the waiting jobs of a table.
 
-use crate::source::sched_jobs::counts::total;
+use crate::source::sched_jobs::counts::{total, total_of_classes};
 use crate::source::sched_jobs::lines::{
-    CLASSES, DIMS, LINES, is_class_empty, join_line, key_at, leave_line, put_key, put_rank, rank_at,
+    CLASSES, DIMS, LINES, join_line, key_at, leave_line, put_key, put_rank, rank_at,
 };
 use crate::source::sched_jobs::search::{Wanted, first_of_all};
 use crate::source::cube_shape::MAX_BITMAP_DIM;
@@ -16,8 +16,8 @@ use crate::source::wait_queue::{MAX_SLOTS, Queue, QueueNode};
 pub struct LineTable {
     pub(crate) nodes: FixedVec<QueueNode>,
     pub(crate) queues: FixedVec<Queue>,
-    /// Whether a class may have waiting jobs.
-    pub(crate) used: FixedVec<bool>,
+    /// How many slots of each class wait.
+    pub(crate) counts: FixedVec<u64>,
 }
 
 // Returns the rank of an estimate: the largest number if it is not known.
@@ -33,9 +33,14 @@ fn line_number(job: &SchedJob) -> usize {
     job.class as usize * DIMS + job.dim as usize
 }
 
-// Writes whether a class may have waiting jobs.
-fn set_flag(used: &mut [bool], class: usize, to: bool) {
-    used[class] = to;
+// Counts one more slot of a class.
+fn count_one(counts: &mut [u64], class: usize) {
+    counts[class] += 1;
+}
+
+// Counts one slot less of a class.
+fn discount_one(counts: &mut [u64], class: usize) {
+    counts[class] -= 1;
 }
 
 impl LineTable {
@@ -43,11 +48,11 @@ impl LineTable {
     pub(crate) fn new(store: &mut Store, capacity: usize) -> Result<Self, AllocError> {
         let nodes = store.filled(QueueNode::UNUSED, capacity, 5 * capacity)?;
         let queues = store.filled(Queue::new(), LINES, LINES)?;
-        let used = store.filled(false, CLASSES as usize, 1)?;
+        let counts = store.filled(0, CLASSES as usize, CLASSES as usize)?;
         Ok(LineTable {
             nodes,
             queues,
-            used,
+            counts,
         })
     }
 
@@ -76,13 +81,18 @@ impl LineTable {
 
     /// Returns the slot that is wanted, of the first class, with the least key there.
     pub(crate) fn first(&self, wanted: &Wanted) -> Option<u32> {
-        first_of_all(&self.nodes, &self.queues, &self.used, wanted)
+        first_of_all(&self.nodes, &self.queues, &self.counts, wanted)
     }
 
-    /// Returns the number of slots in the lines from `first` on, up to `end`, which is left out. If
-    /// there is a bound, only keys below it count.
-    pub(crate) fn count(&self, first: usize, end: usize, bound: Option<u64>) -> u64 {
+    /// Returns the number of slots with a key below the bound in the lines from `first` on, up to
+    /// `end`, which is left out.
+    pub(crate) fn count(&self, first: usize, end: usize, bound: u64) -> u64 {
         total(&self.nodes, &self.queues, first, end, bound)
+    }
+
+    /// Returns the number of slots in the lines of the classes below `end`.
+    pub(crate) fn count_classes(&self, end: usize) -> u64 {
+        total_of_classes(&self.counts, end)
     }
 
     /// Appends a slot to the line of its job, with a key above all keys there.
@@ -90,16 +100,14 @@ impl LineTable {
         let at = line_number(job);
         let estimate = rank(job.estimate);
         join_line(&mut self.nodes, &mut self.queues, at, slot, key, estimate);
-        set_flag(&mut self.used, job.class as usize, true);
+        count_one(&mut self.counts, job.class as usize);
     }
 
     /// Removes a slot from the line of its job.
     pub(crate) fn leave(&mut self, job: &SchedJob, slot: u32) {
         let at = line_number(job);
         leave_line(&mut self.nodes, &mut self.queues, at, slot);
-        let class = job.class as usize;
-        let is_used = !is_class_empty(&self.queues, class);
-        set_flag(&mut self.used, class, is_used);
+        discount_one(&mut self.counts, job.class as usize);
     }
 
     /// Writes the key of a slot that is in no line.

@@ -3,7 +3,7 @@
 
 use crate::source::cube_shape::MAX_BITMAP_DIM;
 use crate::source::wait_queue::{
-    Queue, QueueNode, is_empty, oldest, oldest_within, push, queues_rest_on_their_slots, remove,
+    Queue, QueueNode, oldest, oldest_within, push, queues_rest_on_their_slots, remove,
 };
 
 /// The number of classes. The class of a job is below it.
@@ -67,14 +67,4 @@ pub(crate) fn first_within(
     limit: u64,
 ) -> Option<u32> {
     oldest_within(nodes, &queues[at], limit)
-}
-
-/// Returns whether no slot is in a line of a class.
-pub(crate) fn is_class_empty(queues: &[Queue], class: usize) -> bool {
-    for dim in 0..DIMS {
-        if !is_empty(&queues[class * DIMS + dim]) {
-            return false;
-        }
-    }
-    true
 }

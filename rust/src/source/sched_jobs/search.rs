@@ -91,11 +91,12 @@ fn first_of_class(
 fn first_if_used(
     nodes: &[QueueNode],
     queues: &[Queue],
-    used: &[bool],
+    counts: &[u64],
     class: usize,
     wanted: &Wanted,
 ) -> Option<u32> {
-    if !used[class] {
+    let count = counts[class];
+    if count == 0 {
         return None;
     }
     first_of_class(nodes, queues, class, wanted)
@@ -105,11 +106,11 @@ fn first_if_used(
 pub(crate) fn first_of_all(
     nodes: &[QueueNode],
     queues: &[Queue],
-    used: &[bool],
+    counts: &[u64],
     wanted: &Wanted,
 ) -> Option<u32> {
     for class in 0..CLASSES as usize {
-        if let Some(slot) = first_if_used(nodes, queues, used, class, wanted) {
+        if let Some(slot) = first_if_used(nodes, queues, counts, class, wanted) {
             return Some(slot);
         }
     }

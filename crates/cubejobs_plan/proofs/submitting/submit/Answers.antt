@@ -18,7 +18,7 @@ returns-clause-submitted c = λ code.
       arrival = e.arrival;
       generation = e.generation;
       others = e.others;
-      tells = c.answer_at.ensures.answer;
+      tells = c.answer_at_last.ensures.answer;
     }
 
 pub returns-clause-refused : goal.returns-clause-refused

@@ -8,5 +8,5 @@ use Rattle.sched_jobs.proofs.search.first_of_all.Given as goal
 abbrev pub invariant-loop-class : goal.invariant-loop-class
 invariant-loop-class l = record {
   bound : l.class ≤ CLASSES;
-  none : (line : ℕ → Option ℕ) → ShowsLines l.nodes l.queues l.used line → (before u : ℕ) → before < l.class → IsFitIn l.nodes line l.wanted before u → ⊥;
+  none : (line : ℕ → Option ℕ) → ShowsLines l.nodes l.queues l.counts line → (before u : ℕ) → before < l.class → IsFitIn l.nodes line l.wanted before u → ⊥;
 }

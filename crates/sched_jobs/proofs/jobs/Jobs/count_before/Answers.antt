@@ -18,9 +18,9 @@ returns-clause-count c = λ w wait shows waits.
     let mine : place_in c.args.self.now.slots.items c.args.slot ≡ Waiting c.in-Waiting.wait =
     sym (sym c.in-Waiting.is ∙ c.place_at.ensures ∙ ap (λ (xs : List Slot). place_in xs c.args.slot) c.deref.ensures.value) in
     let one : c.in-Waiting.wait ≡ wait = wait_is (sym mine ∙ waits) in
-    let lows = c.count-lower.ensures.count (λ u. line_of (place_in c.args.self.now.slots.items u)) c.args.self.now.next shows.2.shown (numbers w c.args.self.now shows) in
+    let lows = c.count_classes-lower.ensures.count (λ u. line_of (place_in c.args.self.now.slots.items u)) c.args.self.now.next shows.2.shown (numbers w c.args.self.now shows) in
     let owns = c.count.ensures.count (λ u. line_of (place_in c.args.self.now.slots.items u)) c.args.self.now.next shows.2.shown (numbers w c.args.self.now shows) in
-    subst (λ (x : SchedWait). IsCount (WaitsBefore w (arrival_of c.args.self.now c.args.slot) x.job) w.next (c.count-lower.result + c.count.result)) one
-    (before_counted w c.args.self.now shows c.args.slot c.in-Waiting.wait mine c.count-lower.result c.count.result (c.count-lower.result + c.count.result) refl lows
+    subst (λ (x : SchedWait). IsCount (WaitsBefore w (arrival_of c.args.self.now c.args.slot) x.job) w.next (c.count_classes-lower.result + c.count.result)) one
+    (before_counted w c.args.self.now shows c.args.slot c.in-Waiting.wait mine c.count_classes-lower.result c.count.result (c.count_classes-lower.result + c.count.result) refl lows
     (subst (λ (k : ℕ). IsCount (HasKeyFrom c.args.self.now.lines.nodes.items (λ u. line_of (place_in c.args.self.now.slots.items u)) (c.in-Waiting.wait.job.class * (MAX_BITMAP_DIM + 1))
     (c.in-Waiting.wait.job.class * (MAX_BITMAP_DIM + 1) + (MAX_BITMAP_DIM + 1)) (Some k)) c.args.self.now.next c.count.result) c.key-number.ensures owns))

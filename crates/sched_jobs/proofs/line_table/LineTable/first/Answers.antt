@@ -1,5 +1,5 @@
 -- The vectors have the lists.
-use Rattle.std.proofs.Common.{Bool, List, sym, subst}
+use Rattle.std.proofs.Common.{ℕ, List, sym, subst}
 use Rattle.wait_queue.specs.declared.nodes.QueueNode.{QueueNode as NodeData}
 use Rattle.wait_queue.specs.declared.queues.Queue.{Queue as QueueData}
 use Rattle.sched_jobs.specs.Lines.{ShowsLines}
@@ -11,4 +11,4 @@ returns c = λ line shown.
     subst (λ (xs : List NodeData). IsChosen xs line c.args.wanted.now c.first_of_all.result) c.deref.ensures.value (c.first_of_all.ensures line
     (subst (λ (xs : List NodeData). ShowsLines xs c.deref-2.result.now c.deref-3.result.now line) (sym c.deref.ensures.value)
     (subst (λ (xs : List QueueData). ShowsLines c.args.self.now.nodes.items xs c.deref-3.result.now line) (sym c.deref-2.ensures.value)
-    (subst (λ (xs : List Bool). ShowsLines c.args.self.now.nodes.items c.args.self.now.queues.items xs line) (sym c.deref-3.ensures.value) shown))))
+    (subst (λ (xs : List ℕ). ShowsLines c.args.self.now.nodes.items c.args.self.now.queues.items xs line) (sym c.deref-3.ensures.value) shown))))

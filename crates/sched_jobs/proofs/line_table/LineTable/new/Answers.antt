@@ -12,18 +12,18 @@ returns-clause-ranks c = λ u. rank_unused c.in_ok-nodes.nodes.items c.args.capa
 
 pub returns-clause-lines : goal.returns-clause-lines
 returns-clause-lines c =
-    shown_empty c.in_ok-nodes.nodes.items c.in_ok-queues.queues.items c.in_ok-used.used.items c.new.result c.args.capacity (search rules) c.requires
-    c.in_ok-queues.ensures.items (c.new.ensures c.in_ok-nodes.nodes.items) (search rules) (search rules)
+    shown_empty c.in_ok-nodes.nodes.items c.in_ok-queues.queues.items c.in_ok-counts.counts.items c.new.result c.args.capacity (search rules) c.requires
+    c.in_ok-queues.ensures.items (c.new.ensures c.in_ok-nodes.nodes.items) (search rules) c.in_ok-counts.ensures.items (search rules)
 
 pub returns-in_err-queues-clause-enough : goal.returns-in_err-queues-clause-enough
 returns-in_err-queues-clause-enough c = λ h.
-    let none = c.in_err-queues.ensures.enough (first 168 1 _ (others (5 * c.args.capacity) 169 _ _ c.in_ok-nodes.ensures.spends h)) in
+    let none = c.in_err-queues.ensures.enough (first 168 8 _ (others (5 * c.args.capacity) 176 _ _ c.in_ok-nodes.ensures.spends h)) in
     absurd (cc)
 
-pub returns-in_err-used-clause-enough : goal.returns-in_err-used-clause-enough
-returns-in_err-used-clause-enough c = λ h.
-    let none = c.in_err-used.ensures.enough (others 168 1 _ _ c.in_ok-queues.ensures.spends (others (5 * c.args.capacity) 169 _ _ c.in_ok-nodes.ensures.spends h)) in
+pub returns-in_err-counts-clause-enough : goal.returns-in_err-counts-clause-enough
+returns-in_err-counts-clause-enough c = λ h.
+    let none = c.in_err-counts.ensures.enough (others 168 8 _ _ c.in_ok-queues.ensures.spends (others (5 * c.args.capacity) 176 _ _ c.in_ok-nodes.ensures.spends h)) in
     absurd (cc)
 
 pub returns-clause-spends : goal.returns-clause-spends
-returns-clause-spends c = both (5 * c.args.capacity) 169 _ _ _ c.in_ok-nodes.ensures.spends (both 168 1 _ _ _ c.in_ok-queues.ensures.spends c.in_ok-used.ensures.spends)
+returns-clause-spends c = both (5 * c.args.capacity) 176 _ _ _ c.in_ok-nodes.ensures.spends (both 168 8 _ _ _ c.in_ok-queues.ensures.spends c.in_ok-counts.ensures.spends)
