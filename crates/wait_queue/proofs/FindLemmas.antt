@@ -1,5 +1,5 @@
 -- What is found and counted below a fork.
-use Rattle.std.proofs.Common.{◌≡◌, ℕ, ◌+◌, ◌<◌, ◌≤◌, inl, inr, cond, ltb, List, [], ◌∷◌, length, refl, ◌∙◌, ap, arith}
+use Rattle.std.proofs.Common.{◌≡◌, ℕ, ◌+◌, ◌<◌, ◌≤◌, ◌⊎◌, inl, inr, cond, ltb, min, List, [], ◌∷◌, length, refl, ◌∙◌, ap, arith}
 use Rattle.std.specs.List.{count_by}
 use Rattle.std.proofs.lemmas.Bool.{lt-ltb, le-ltb}
 use Rattle.std.proofs.lemmas.List.Sums.{count_by-le-length, sum_by-append, sum_by-cons}
@@ -21,6 +21,29 @@ least_is_least nodes (branch before after) u h =
       | inl left ↦ (let one = least_is_least nodes before u left in omega arith)
       | inr right ↦ (let two = least_is_least nodes after u right in omega arith)
     ]
+
+-- what is at most each item's estimate is at most the least
+pub least_is_greatest : (nodes : List NodeData) (tree : Tree) (bound : ℕ)
+    → ((u : ℕ) → Has (slots_of tree) u → bound ≤ estimate_of nodes u) → bound ≤ least_of nodes tree
+least_is_greatest nodes (leaf slot) bound all = all slot (inl refl)
+least_is_greatest nodes (branch before after) bound all =
+    let one = least_is_greatest nodes before bound (λ u h. all u (has_left (slots_of before) (slots_of after) u h)) in
+    let two = least_is_greatest nodes after bound (λ u h. all u (has_right (slots_of before) (slots_of after) u h)) in
+    omega arith
+
+-- the least of a tree that has one item more
+pub least_more : (nodes : List NodeData) (less more : Tree) (slot : ℕ)
+    → ((u : ℕ) → Has (slots_of less) u → Has (slots_of more) u) → Has (slots_of more) slot
+    → ((u : ℕ) → Has (slots_of more) u → Has (slots_of less) u ⊎ (u ≡ slot))
+    → least_of nodes more ≡ min (least_of nodes less) (estimate_of nodes slot)
+least_more nodes less more slot within own either =
+    let below = least_is_greatest nodes less (least_of nodes more) (λ u h. least_is_least nodes more u (within u h)) in
+    let below_own = least_is_least nodes more slot own in
+    let above = least_is_greatest nodes more (min (least_of nodes less) (estimate_of nodes slot)) (λ u h. elim (either u h) [
+      | inl one ↦ (let least = least_is_least nodes less u one in omega arith)
+      | inr same ↦ (let equal = ap (estimate_of nodes) same in omega arith)
+    ]) in
+    omega arith
 
 pub within_left : (nodes : List NodeData) (before after : Tree) (limit slot : ℕ) → Precedes nodes before after
     → IsOldestWithin nodes (slots_of before) limit slot

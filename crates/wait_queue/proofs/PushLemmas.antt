@@ -1,13 +1,14 @@
 -- An item that is appended to a tree.
-use Rattle.std.proofs.Common.{◌≡◌, ℕ, ◌*◌, ◌/◌, ◌<◌, inl, inr, List, [], ◌∷◌, ◌++◌, refl, sym, ◌∙◌, ap, subst, arith, append_assoc}
+use Rattle.std.proofs.Common.{◌≡◌, ℕ, ◌+◌, ◌*◌, ◌/◌, ◌<◌, inl, inr, min, List, [], ◌∷◌, ◌++◌, length, refl, sym, ◌∙◌, ap, subst, arith, append_assoc, length-append}
 use Rattle.wait_queue.specs.declared.nodes.Fork.{Fork as ForkData}
 use Rattle.wait_queue.specs.declared.nodes.QueueNode.{QueueNode as NodeData}
-use Rattle.wait_queue.specs.Nodes.{key_of}
+use Rattle.wait_queue.specs.Nodes.{estimate_of, key_of}
 use Rattle.wait_queue.specs.Lists.{Has}
-use Rattle.wait_queue.specs.Inner.Tree.{Tree, leaf, branch, IsAt, first_of, slots_of}
-use Rattle.wait_queue.specs.Inner.Changes.{CanPush, HasPushed, IsPair, KeepsItems}
+use Rattle.wait_queue.specs.Inner.Tree.{Tree, leaf, branch, IsAt, first_of, least_of, size_of, slots_of}
+use Rattle.wait_queue.specs.Inner.Changes.{CanPush, HasMore, HasPushed, IsPair, KeepsItems}
 use Rattle.wait_queue.proofs.ListLemmas.{has_left, has_right, has_cases}
-use Rattle.wait_queue.proofs.TreeLemmas.{BranchAt, apart, at_kept, has_first}
+use Rattle.wait_queue.proofs.TreeLemmas.{BranchAt, apart, at_kept, has_first, least_kept, size_is_length}
+use Rattle.wait_queue.proofs.FindLemmas.{least_more}
 
 -- an item in two lists, one of which has it
 has_appended : (xs ys : List ℕ) (u : ℕ) → xs ≡ ys → Has xs u → Has ys u
@@ -101,6 +102,34 @@ push_right_pair old mid link slot right tree found can at done =
           ] in
           let one = done.rest.same_keys u in let two = done.rest.same_keys v in omega arith;
       place = at.place ∙ sym (same_first done.made at.after (slot ∷ []) done.appended);
+    }
+
+-- by the fork with the new link, which lacks the item
+pub push_right_more : (old mid : List NodeData) (link slot right : ℕ) (tree : Tree) (found : ForkData) → CanPush old link slot tree
+    → (at : BranchAt old link tree found) → (done : HasPushed old mid slot right at.after)
+    → HasMore mid (link / 2) (record { least = found.least; left = found.left; right = right; size = found.size; common = found.common })
+    slot at.before done.made
+push_right_more old mid link slot right tree found can at done =
+    let appended : slots_of at.after ++ slot ∷ [] ≡ slots_of done.made = sym done.appended in
+    let size : size_of done.made ≡ size_of at.after + 1 = (
+    let one = size_is_length done.made in
+    let two = size_is_length at.after in
+    let both = length-append (slots_of at.after) (slot ∷ []) in
+    let same = ap length appended in omega arith) in
+    let least : least_of mid done.made ≡ min (least_of mid at.after) (estimate_of mid slot) = least_more mid at.after done.made slot
+    (λ u h. has_appended (slots_of at.after ++ slot ∷ []) (slots_of done.made) u appended (has_left (slots_of at.after) (slot ∷ []) u h))
+    (has_appended (slots_of at.after ++ slot ∷ []) (slots_of done.made) slot appended (has_right (slots_of at.after) (slot ∷ []) slot (inl refl)))
+    (λ u h. elim (has_cases (slots_of at.after) (slot ∷ []) u (has_appended (slots_of done.made) (slots_of at.after ++ slot ∷ []) u done.appended h)) [
+      | inl later ↦ inl later
+      | inr own ↦ (elim own [ inl same ↦ inr same | inr none ↦ absurd none ])
+    ]) in
+    let kept_before = least_kept old mid at.before (λ u h. done.rest.same_estimates u) in
+    let kept_after = least_kept old mid at.after (λ u h. done.rest.same_estimates u) in
+    record {
+      pair = push_right_pair old mid link slot right tree found can at done;
+      inside = (let own = can.inside in let same = done.rest.same_length in omega arith);
+      counted = (let counted = at.counted in omega arith);
+      lowest = (let lowest = at.lowest in omega arith);
     }
 
 pub push_right : (old mid new : List NodeData) (link slot right made : ℕ) (tree : Tree) (found : ForkData)

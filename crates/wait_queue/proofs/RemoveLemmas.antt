@@ -1,15 +1,16 @@
 -- An item that is removed from a tree.
-use Rattle.std.proofs.Common.{◌≡◌, ◌≢◌, ℕ, ◌*◌, ◌/◌, ◌%◌, ◌<◌, ◌≤◌, ◌⊎◌, inl, inr, Bool, true, false, cond, eqb, List, [], ◌∷◌, ◌++◌, refl, sym, ◌∙◌, ap, subst, arith}
-use Rattle.std.proofs.lemmas.Bool.{eq-eqb, ne_eqb}
+use Rattle.std.proofs.Common.{◌≡◌, ◌≢◌, ℕ, ◌+◌, ◌*◌, ◌/◌, ◌%◌, ◌<◌, ◌≤◌, ◌⊎◌, inl, inr, Bool, true, false, cond, min, eqb, List, [], ◌∷◌, ◌++◌, length, refl, sym, ◌∙◌, ap, subst, arith}
+use Rattle.std.proofs.lemmas.Bool.{eq-eqb, eqb-true, ne_eqb}
 use Rattle.std.proofs.lemmas.List.{append-nil}
 use Rattle.wait_queue.specs.declared.nodes.Fork.{Fork as ForkData}
 use Rattle.wait_queue.specs.declared.nodes.QueueNode.{QueueNode as NodeData}
-use Rattle.wait_queue.specs.Nodes.{key_of}
-use Rattle.wait_queue.specs.Lists.{Has}
-use Rattle.wait_queue.specs.Inner.Tree.{Tree, leaf, branch, IsAt, first_of, slots_of}
-use Rattle.wait_queue.specs.Inner.Changes.{CanRemove, HasRemoved, IsPair, KeepsItems, without}
+use Rattle.wait_queue.specs.Nodes.{estimate_of, key_of}
+use Rattle.wait_queue.specs.Lists.{Has, IsRising}
+use Rattle.wait_queue.specs.Inner.Tree.{Tree, leaf, branch, Holds, IsAt, first_of, least_of, size_of, slots_of}
+use Rattle.wait_queue.specs.Inner.Changes.{CanRemove, HasLess, HasRemoved, IsPair, KeepsItems, without}
 use Rattle.wait_queue.proofs.ListLemmas.{has_left, has_right, has_cases}
-use Rattle.wait_queue.proofs.TreeLemmas.{BranchAt, apart, at_kept, first_is_least, has_first, leaf_at}
+use Rattle.wait_queue.proofs.TreeLemmas.{BranchAt, apart, at_kept, first_is_least, has_first, leaf_at, least_kept, size_is_length, slots_inside, slots_rise}
+use Rattle.wait_queue.proofs.FindLemmas.{least_more}
 use Rattle.wait_queue.proofs.PushLemmas.{first_is_head, keeps_more, keeps_twice}
 
 without_step : (slot x : ℕ) (xs zs : List ℕ) → (b : Bool) → zs ≡ without slot xs
@@ -44,6 +45,54 @@ pub without_has : (slot : ℕ) (xs : List ℕ) (u : ℕ) → Has (without slot x
 without_has slot [] u h = h
 without_has slot (x ∷ xs) u h = has_step (eqb slot x) x u (without slot xs) xs (without_has slot xs u) h
 
+own_step : (slot x u : ℕ) (zs : List ℕ) → (b : Bool) → eqb slot x ≡ b → u ≡ x → Has (cond b zs (x ∷ zs)) u ⊎ (u ≡ slot)
+own_step slot x u zs true is same = inr (same ∙ sym (eqb-true slot x is))
+own_step slot x u zs false is same = inl (inl same)
+
+later_step : (x u : ℕ) (zs : List ℕ) → (b : Bool) → Has zs u → Has (cond b zs (x ∷ zs)) u
+later_step x u zs true h = h
+later_step x u zs false h = inr h
+
+has_or_own : (slot : ℕ) (xs : List ℕ) (u : ℕ) → Has xs u → Has (without slot xs) u ⊎ (u ≡ slot)
+has_or_own slot [] u h = absurd h
+has_or_own slot (x ∷ xs) u (inl same) = own_step slot x u (without slot xs) (eqb slot x) refl same
+has_or_own slot (x ∷ xs) u (inr later) = elim (has_or_own slot xs u later) [
+  | inl left ↦ inl (later_step x u (without slot xs) (eqb slot x) left)
+  | inr own ↦ inr own
+]
+
+without_length : (nodes : List NodeData) (slot : ℕ) (xs : List ℕ) → IsRising nodes xs → Has xs slot
+    → length xs ≡ length (without slot xs) + 1
+without_length nodes slot [] rising h = absurd h
+without_length nodes slot (x ∷ xs) rising (inl same) =
+    let none : Has xs slot → ⊥ = λ later. let less = rising.0 slot later in let equal = ap (key_of nodes) same in omega arith in
+    let left : without slot (x ∷ xs) ≡ xs =
+    ap (λ b. cond b (without slot xs) (x ∷ without slot xs)) (eq-eqb slot x same) ∙ without_none slot xs none in
+    let count = ap length left in omega arith
+without_length nodes slot (x ∷ xs) rising (inr later) =
+    let less = rising.0 slot later in
+    let left : without slot (x ∷ xs) ≡ x ∷ without slot xs =
+    ap (λ b. cond b (without slot xs) (x ∷ without slot xs)) (ne_eqb slot x (λ same. let equal = ap (key_of nodes) same in omega arith)) in
+    let count = ap length left in
+    let rest = without_length nodes slot xs rising.1 later in omega arith
+
+-- the size and the least estimate of a tree whose item was removed
+removed_size : (old mid : List NodeData) (slot link : ℕ) (part : Tree) → Holds old part → Has (slots_of part) slot
+    → (done : HasRemoved old mid slot link part) → size_of part ≡ size_of done.made + 1
+removed_size old mid slot link part held has done =
+    let count = without_length old slot (slots_of part) (slots_rise old part held) has in
+    let same = ap length done.left_out in
+    omega (arith, count, same, size_is_length part, size_is_length done.made)
+
+removed_least : (old mid : List NodeData) (slot link : ℕ) (part : Tree) → Has (slots_of part) slot
+    → (done : HasRemoved old mid slot link part)
+    → least_of old part ≡ min (least_of mid done.made) (estimate_of mid slot)
+removed_least old mid slot link part has done =
+    sym (least_kept old mid part (λ u h. done.rest.same_estimates u))
+    ∙ least_more mid done.made part slot
+    (λ u h. without_has slot (slots_of part) u (subst (λ xs. Has xs u) done.left_out h)) has
+    (λ u h. subst (λ xs. Has xs u ⊎ (u ≡ slot)) (sym done.left_out) (has_or_own slot (slots_of part) u h))
+
 -- the first of what is left
 pub first_left : (slot : ℕ) (one two : Tree) → slots_of one ≡ without slot (slots_of two) → first_of two ≢ slot
     → first_of two ≡ first_of one
@@ -74,6 +123,9 @@ module _ (old : List NodeData) (link slot : ℕ) (tree : Tree) (found : ForkData
     (at : BranchAt old link tree found) where
   pub whole_slots : slots_of tree ≡ slots_of at.before ++ slots_of at.after
   whole_slots = ap slots_of at.whole
+
+  slot_inside : slot < length old
+  slot_inside = slots_inside old tree can.found.held slot can.one_of
 
   in_one : Has (slots_of at.before) slot ⊎ Has (slots_of at.after) slot
   in_one = has_cases (slots_of at.before) (slots_of at.after) slot (subst (λ xs. Has xs slot) whole_slots can.one_of)
@@ -168,6 +220,21 @@ module _ (old : List NodeData) (link slot : ℕ) (tree : Tree) (found : ForkData
       place = at.place;
     }
 
+    -- by the fork with the new link, which still has the item
+    pub remove_left_less : HasLess mid (link / 2)
+        (record { least = found.least; left = left; right = found.right; size = found.size; common = found.common })
+        slot done.made at.after
+    remove_left_less =
+        let size = removed_size old mid slot left at.before at.to_left.held (on_the_left less) done in
+        let least = removed_least old mid slot left at.before (on_the_left less) done in
+        let kept = least_kept old mid at.after (λ u h. done.rest.same_estimates u) in
+        record {
+          pair = remove_left_pair;
+          inside = (let own = slot_inside in let same = done.rest.same_length in omega arith);
+          counted = (let counted = at.counted in omega arith);
+          lowest = (let lowest = at.lowest in omega arith);
+        }
+
     pub remove_left : (new : List NodeData) (made : ℕ) → KeepsItems mid new (link / 2 ∷ [])
         → IsAt new made (branch done.made at.after) → HasRemoved old new slot made tree
     remove_left new made keeps joined = record {
@@ -204,6 +271,20 @@ module _ (old : List NodeData) (link slot : ℕ) (tree : Tree) (found : ForkData
           let one = done.rest.same_keys u in let two = done.rest.same_keys v in omega arith;
       place = is;
     }
+
+    pub remove_right_less : place ≡ first_of done.made → HasLess mid place
+        (record { least = found.least; left = found.left; right = right; size = found.size; common = found.common })
+        slot at.before done.made
+    remove_right_less is =
+        let size = removed_size old mid slot right at.after at.to_right.held (on_the_right most) done in
+        let least = removed_least old mid slot right at.after (on_the_right most) done in
+        let kept = least_kept old mid at.before (λ u h. done.rest.same_estimates u) in
+        record {
+          pair = remove_right_pair is;
+          inside = (let own = slot_inside in let same = done.rest.same_length in omega arith);
+          counted = (let counted = at.counted in omega arith);
+          lowest = (let lowest = at.lowest in omega arith);
+        }
 
     pub remove_right : (new : List NodeData) (made : ℕ) → place ≡ first_of done.made → KeepsItems mid new (place ∷ [])
         → IsAt new made (branch at.before done.made) → HasRemoved old new slot made tree

@@ -161,8 +161,8 @@ at_kept old new link slots tree keeps clear at =
 pub made_pair : (old new : List NodeData) (slot left right link : ℕ) (before after : Tree) → IsPair old slot left right before after
     → KeepsItems old new (slot ∷ []) → link ≡ 2 * slot + 1
     → (fork_of new slot).left ≡ left → (fork_of new slot).right ≡ right
-    → (fork_of new slot).size ≡ size_at old left + size_at old right
-    → (fork_of new slot).least ≡ min (least_at old left) (least_at old right)
+    → (fork_of new slot).size ≡ size_of before + size_of after
+    → (fork_of new slot).least ≡ min (least_of old before) (least_of old after)
     → IsAt new link (branch before after)
 made_pair old new slot left right link before after pair keeps linked to_left to_right counted lowest =
     let place = pair.place in
@@ -176,15 +176,11 @@ made_pair old new slot left right link before after pair keeps linked to_left to
     (λ u h other written. elim written [ inl equal ↦ other (equal ∙ place) | inr none ↦ none ]) pair.second_tree in
     let estimates : (least_of new before ≡ least_of old before) × (least_of new after ≡ least_of old after) =
     (least_kept old new before (λ u h. keeps.same_estimates u), least_kept old new after (λ u h. keeps.same_estimates u)) in
-    let lefts = least_at_link old left before pair.first_tree in
-    let rights = least_at_link old right after pair.second_tree in
-    let smalls = size_at_link old left before pair.first_tree in
-    let greats = size_at_link old right after pair.second_tree in
     let join : IsJoin new (fork_of new slot) before after = record {
       to_left = to_left ∙ pair.first_tree.linked;
       to_right = to_right ∙ pair.second_tree.linked;
-      counted = omega arith;
-      lowest = lowest ∙ ap (λ a. min a (least_at old right)) (lefts ∙ sym estimates.0) ∙ ap (min (least_of new before)) (rights ∙ sym estimates.1);
+      counted = counted;
+      lowest = lowest ∙ ap (λ a. min a (least_of old after)) (sym estimates.0) ∙ ap (min (least_of new before)) (sym estimates.1);
       order = order_kept old new before after (λ u h. keeps.same_keys u) (λ u h. keeps.same_keys u) pair.order;
     } in
     record {
@@ -192,6 +188,27 @@ made_pair old new slot left right link before after pair keeps linked to_left to
       linked = linked ∙ ap (λ s. 2 * s + 1) place;
       held = (subst (λ s. IsJoin new (fork_of new s) before after) place join, one.held, two.held);
     }
+
+-- what the links of a pair say
+pub size_of_pair : (nodes : List NodeData) (slot left right : ℕ) (before after : Tree) → IsPair nodes slot left right before after
+    → size_at nodes left + size_at nodes right ≡ size_of before + size_of after
+size_of_pair nodes slot left right before after pair =
+    let one = size_at_link nodes left before pair.first_tree in
+    let two = size_at_link nodes right after pair.second_tree in
+    omega arith
+
+pub least_of_pair : (nodes : List NodeData) (slot left right : ℕ) (before after : Tree) → IsPair nodes slot left right before after
+    → min (least_at nodes left) (least_at nodes right) ≡ min (least_of nodes before) (least_of nodes after)
+least_of_pair nodes slot left right before after pair =
+    ap (λ a. min a (least_at nodes right)) (least_at_link nodes left before pair.first_tree)
+    ∙ ap (min (least_of nodes before)) (least_at_link nodes right after pair.second_tree)
+
+-- the slot of a pair's fork is in the slice
+pub place_inside : (nodes : List NodeData) (slot left right : ℕ) (before after : Tree) → IsPair nodes slot left right before after
+    → slot < length nodes
+place_inside nodes slot left right before after pair =
+    let inside = slots_inside nodes after pair.second_tree.held (first_of after) (has_first after) in
+    let place = pair.place in omega arith
 
 -- the slot of a link is in the slice
 pub link_inside : (nodes : List NodeData) (link : ℕ) (tree : Tree) → IsAt nodes link tree → link / 2 < length nodes
@@ -201,7 +218,7 @@ link_inside nodes link (branch before after) at =
 
 -- the sizes of two trees that can be joined are small
 pub pair_is_small : (nodes : List NodeData) (slot left right : ℕ) (before after : Tree) → IsPair nodes slot left right before after
-    → size_at nodes left + size_at nodes right ≤ MAX_SLOTS
+    → size_of before + size_of after ≤ MAX_SLOTS
 pair_is_small nodes slot left right before after pair =
     let few = rising_few nodes (slots_of before ++ slots_of after) (length nodes)
     (rising_append nodes (slots_of before) (slots_of after) (slots_rise nodes before pair.first_tree.held) (slots_rise nodes after pair.second_tree.held) pair.order)
@@ -210,16 +227,7 @@ pair_is_small nodes slot left right before after pair =
       | inr two ↦ slots_inside nodes after pair.second_tree.held u two
     ]) in
     let limit = pair.first_tree.limit in
-    omega (
-      arith,
-      few,
-      limit,
-      length-append (slots_of before) (slots_of after),
-      size_is_length before,
-      size_is_length after,
-      size_at_link nodes left before pair.first_tree,
-      size_at_link nodes right after pair.second_tree,
-    )
+    omega (arith, few, limit, length-append (slots_of before) (slots_of after), size_is_length before, size_is_length after)
 
 pub some_items : (tree : Tree) → 0 < size_of tree
 some_items (leaf slot) = omega arith
@@ -234,6 +242,8 @@ pub record BranchAt (nodes : List NodeData) (link : ℕ) (tree : Tree) (found : 
   pub to_right : IsAt nodes found.right after
   pub order : Precedes nodes before after
   pub place : link / 2 ≡ first_of after
+  pub counted : found.size ≡ size_of before + size_of after
+  pub lowest : found.least ≡ min (least_of nodes before) (least_of nodes after)
   pub left_smaller : size_at nodes found.left < size_at nodes link
   pub right_smaller : size_at nodes found.right < size_at nodes link
 
@@ -261,6 +271,8 @@ branch_at nodes link (branch before after) found at odd is =
       to_right = two;
       order = at.held.0.order;
       place = place;
+      counted = ap (λ f. f.size) same ∙ at.held.0.counted;
+      lowest = ap (λ f. f.least) same ∙ at.held.0.lowest;
       left_smaller = omega arith;
       right_smaller = omega arith;
     }

@@ -2,10 +2,10 @@
 //!
 //! The link to the leaf of a slot is twice the slot. The link to the fork in a slot is one more.
 
-ghost use Rattle.std.specs.Prelude.{◌≡◌, ℕ, ◌+◌, ◌*◌, ◌/◌, ◌%◌, ◌^◌, ◌<◌, ◌≤◌, [], ◌∷◌, length};
+ghost use Rattle.std.specs.Prelude.{◌≡◌, ℕ, ◌+◌, ◌*◌, ◌/◌, ◌%◌, ◌^◌, ◌<◌, ◌≤◌, min, [], ◌∷◌, length};
 ghost use Rattle.wait_queue.specs.Nodes.{estimate_of, key_of};
-ghost use Rattle.wait_queue.specs.Inner.Tree.{IsAt, Tree, branch, fork_of};
-ghost use Rattle.wait_queue.specs.Inner.Changes.{HasOthers, IsPair, KeepsItems, least_at, size_at};
+ghost use Rattle.wait_queue.specs.Inner.Tree.{IsAt, Tree, branch, fork_of, least_of};
+ghost use Rattle.wait_queue.specs.Inner.Changes.{HasLess, HasMore, HasOthers, IsPair, KeepsItems, least_at, size_at};
 
 /// The most slots that a slice of nodes may have.
 pub const MAX_SLOTS: usize = 1 << 24;
@@ -156,4 +156,61 @@ pub(crate) fn make_fork(
         },
     );
     2 * slot + 1
+}
+
+/// Writes a fork with the links to its two trees, to one of which an item was appended. Returns the
+/// link to it.
+pub(crate) fn put_more(nodes: &mut [QueueNode], place: u32, fork: Fork, slot: u32) -> u32
+    requires { (before : Tree) × ((after : Tree) × HasMore nodes.old place fork slot before after) }
+    ensures others { KeepsItems nodes.old nodes.new (place ∷ []) }
+    ensures tree { (before after : Tree) → HasMore nodes.old place fork slot before after
+        → IsAt nodes.new result (branch before after) }
+{
+    let least = fork.least.min(estimate_at(nodes, slot));
+    let size = fork.size + 1;
+    put_fork(
+        nodes,
+        place,
+        Fork {
+            least,
+            size,
+            ..fork
+        },
+    );
+    2 * place + 1
+}
+
+// Returns the least estimate below a fork from which an item was removed. If the least so far is
+// below the item's, or is that of the fork's slot, an item that is left has it.
+fn least_without(nodes: &[QueueNode], place: u32, fork: Fork, slot: u32) -> u64
+    requires { (before : Tree) × ((after : Tree) × HasLess nodes.now place fork slot before after) }
+    ensures { (before after : Tree) → HasLess nodes.now place fork slot before after
+        → result ≡ min (least_of nodes.now before) (least_of nodes.now after) }
+{
+    if fork.least < estimate_at(nodes, slot) || fork.least == estimate_at(nodes, place) {
+        return fork.least;
+    }
+    least_in(nodes, fork.left).min(least_in(nodes, fork.right))
+}
+
+/// Writes a fork with the links to its two trees, from one of which an item was removed. Returns
+/// the link to it. The item in the fork's slot is one of those that are left.
+pub(crate) fn put_less(nodes: &mut [QueueNode], place: u32, fork: Fork, slot: u32) -> u32
+    requires { (before : Tree) × ((after : Tree) × HasLess nodes.old place fork slot before after) }
+    ensures others { KeepsItems nodes.old nodes.new (place ∷ []) }
+    ensures tree { (before after : Tree) → HasLess nodes.old place fork slot before after
+        → IsAt nodes.new result (branch before after) }
+{
+    let least = least_without(nodes, place, fork, slot);
+    let size = fork.size - 1;
+    put_fork(
+        nodes,
+        place,
+        Fork {
+            least,
+            size,
+            ..fork
+        },
+    );
+    2 * place + 1
 }

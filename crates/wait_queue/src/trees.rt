@@ -7,7 +7,9 @@ ghost use Rattle.wait_queue.specs.Queues.{IsOldestWithin};
 ghost use Rattle.wait_queue.specs.Inner.Tree.{IsAt, Tree, first_of, least_of, slots_of};
 ghost use Rattle.wait_queue.specs.Inner.Changes.{CanPush, CanRemove, HasPushed, HasRemoved};
 
-use crate::nodes::{QueueNode, common_bits, fork_at, key_at, least_in, make_fork, size_in};
+use crate::nodes::{
+    Fork, QueueNode, common_bits, fork_at, key_at, least_in, make_fork, put_less, put_more, size_in,
+};
 
 /// Returns the first item of a tree.
 pub(crate) fn oldest_in(nodes: &[QueueNode], link: u32) -> u32
@@ -80,7 +82,7 @@ pub(crate) fn push_in(nodes: &mut [QueueNode], link: u32, slot: u32) -> u32
     }
     let fork = fork_at(nodes, link / 2);
     let right = push_in(nodes, fork.right, slot);
-    make_fork(nodes, link / 2, fork.left, right, fork.common)
+    put_more(nodes, link / 2, Fork { right, ..fork }, slot)
 }
 
 /// Returns whether a link leads to the leaf of a slot.
@@ -116,12 +118,12 @@ pub(crate) fn remove_in(nodes: &mut [QueueNode], link: u32, slot: u32) -> u32
             return fork.right;
         }
         let left = remove_in(nodes, fork.left, slot);
-        return make_fork(nodes, here, left, fork.right, fork.common);
+        return put_less(nodes, here, Fork { left, ..fork }, slot);
     }
     if is_leaf_of(fork.right, slot) {
         return fork.left;
     }
     let right = remove_in(nodes, fork.right, slot);
     let place = place_after(nodes, here, right, slot);
-    make_fork(nodes, place, fork.left, right, fork.common)
+    put_less(nodes, place, Fork { right, ..fork }, slot)
 }

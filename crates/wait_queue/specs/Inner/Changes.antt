@@ -1,9 +1,10 @@
 -- What calls write.
-use Rattle.std.specs.Prelude.{◌≡◌, ℕ, ◌/◌, ◌%◌, ◌<◌, ◌==◌, List, [], ◌∷◌, ◌++◌, length, if◌then◌else◌}
+use Rattle.std.specs.Prelude.{◌≡◌, ℕ, ◌+◌, ◌/◌, ◌%◌, ◌<◌, ◌==◌, min, List, [], ◌∷◌, ◌++◌, length, if◌then◌else◌}
+use Rattle.wait_queue.specs.declared.nodes.Fork.{Fork as ForkData}
 use Rattle.wait_queue.specs.declared.nodes.QueueNode.{QueueNode as NodeData}
 use Rattle.wait_queue.specs.Nodes.{estimate_of, key_of, node_at}
 use Rattle.wait_queue.specs.Lists.{Has}
-use Rattle.wait_queue.specs.Inner.Tree.{Tree, IsAt, Precedes, first_of, fork_of, slots_of}
+use Rattle.wait_queue.specs.Inner.Tree.{Tree, IsAt, Precedes, first_of, fork_of, least_of, size_of, slots_of}
 
 -- The number of items below a link.
 abbrev pub size_at : List NodeData → ℕ → ℕ
@@ -32,6 +33,20 @@ pub record IsPair (nodes : List NodeData) (slot left right : ℕ) (before after 
   pub second_tree : IsAt nodes right after
   pub order : Precedes nodes before after
   pub place : slot ≡ first_of after
+
+-- A fork, with the links of two trees. A slot of one is not yet in its size and its least estimate.
+pub record HasMore (nodes : List NodeData) (place : ℕ) (fork : ForkData) (slot : ℕ) (before after : Tree) : Type 0 where
+  pub pair : IsPair nodes place fork.left fork.right before after
+  pub inside : slot < length nodes
+  pub counted : fork.size + 1 ≡ size_of before + size_of after
+  pub lowest : min fork.least (estimate_of nodes slot) ≡ min (least_of nodes before) (least_of nodes after)
+
+-- A fork, with the links of two trees. A slot of neither is still in its size and its least estimate.
+pub record HasLess (nodes : List NodeData) (place : ℕ) (fork : ForkData) (slot : ℕ) (before after : Tree) : Type 0 where
+  pub pair : IsPair nodes place fork.left fork.right before after
+  pub inside : slot < length nodes
+  pub counted : fork.size ≡ size_of before + size_of after + 1
+  pub lowest : fork.least ≡ min (min (least_of nodes before) (least_of nodes after)) (estimate_of nodes slot)
 
 -- A tree at a link, and a slot whose key is above all keys of the tree.
 pub record CanPush (nodes : List NodeData) (link slot : ℕ) (tree : Tree) : Type 0 where

@@ -121,3 +121,46 @@ pub(crate) fn make_fork(
     );
     2 * slot + 1
 }
+
+/// Writes a fork with the links to its two trees, to one of which an item was appended. Returns the
+/// link to it.
+pub(crate) fn put_more(nodes: &mut [QueueNode], place: u32, fork: Fork, slot: u32) -> u32 {
+    let least = fork.least.min(estimate_at(nodes, slot));
+    let size = fork.size + 1;
+    put_fork(
+        nodes,
+        place,
+        Fork {
+            least,
+            size,
+            ..fork
+        },
+    );
+    2 * place + 1
+}
+
+// Returns the least estimate below a fork from which an item was removed. If the least so far is
+// below the item's, or is that of the fork's slot, an item that is left has it.
+fn least_without(nodes: &[QueueNode], place: u32, fork: Fork, slot: u32) -> u64 {
+    if fork.least < estimate_at(nodes, slot) || fork.least == estimate_at(nodes, place) {
+        return fork.least;
+    }
+    least_in(nodes, fork.left).min(least_in(nodes, fork.right))
+}
+
+/// Writes a fork with the links to its two trees, from one of which an item was removed. Returns
+/// the link to it. The item in the fork's slot is one of those that are left.
+pub(crate) fn put_less(nodes: &mut [QueueNode], place: u32, fork: Fork, slot: u32) -> u32 {
+    let least = least_without(nodes, place, fork, slot);
+    let size = fork.size - 1;
+    put_fork(
+        nodes,
+        place,
+        Fork {
+            least,
+            size,
+            ..fork
+        },
+    );
+    2 * place + 1
+}

@@ -2,7 +2,7 @@
 use Rattle.std.proofs.Common.{◌≡◌, ◌%◌, arith}
 use Rattle.wait_queue.specs.Inner.Tree.{leaf}
 use Rattle.wait_queue.proofs.TreeLemmas.{branch_at}
-use Rattle.wait_queue.proofs.PushLemmas.{can_push_right, push_here, push_here_pair, push_right, push_right_pair}
+use Rattle.wait_queue.proofs.PushLemmas.{can_push_right, push_here, push_here_pair, push_right, push_right_more}
 use Rattle.wait_queue.proofs.trees.+push_in.Goals as goal
 
 pub make_fork-requires : goal.make_fork-requires
@@ -21,18 +21,18 @@ push_in-right-requires t c =
     let less = at.right_smaller in
     (omega (arith, less), (at.after, can_push_right c.args.nodes.now c.args.link c.args.slot c.requires.0 c.fork_at-fork.result c.requires.1 at))
 
-pub make_fork-requires-2 : goal.make_fork-requires-2
-make_fork-requires-2 t c =
+pub put_more-requires : goal.put_more-requires
+put_more-requires t c =
     let odd : c.args.link % 2 ≡ 1 = c.is_joined_here.ensures c.if-is_joined_here.false in
     let at = branch_at c.args.nodes.now c.args.link c.requires.0 c.fork_at-fork.result c.requires.1.found odd c.fork_at-fork.ensures in
     let done = c.push_in-right.ensures at.after (can_push_right c.args.nodes.now c.args.link c.args.slot c.requires.0 c.fork_at-fork.result c.requires.1 at) in
-    (at.before, (done.made, push_right_pair c.args.nodes.now c.push_in-right.new.nodes c.args.link c.args.slot c.push_in-right.result c.requires.0 c.fork_at-fork.result c.requires.1 at done))
+    (at.before, (done.made, push_right_more c.args.nodes.now c.push_in-right.new.nodes c.args.link c.args.slot c.push_in-right.result c.requires.0 c.fork_at-fork.result c.requires.1 at done))
 
 pub returns : goal.returns
 returns t c = λ tree can.
     let odd : c.args.link % 2 ≡ 1 = c.is_joined_here.ensures c.if-is_joined_here.false in
     let at = branch_at c.args.nodes.now c.args.link tree c.fork_at-fork.result can.found odd c.fork_at-fork.ensures in
     let done = c.push_in-right.ensures at.after (can_push_right c.args.nodes.now c.args.link c.args.slot tree c.fork_at-fork.result can at) in
-    let pair = push_right_pair c.args.nodes.now c.push_in-right.new.nodes c.args.link c.args.slot c.push_in-right.result tree c.fork_at-fork.result can at done in
-    push_right c.args.nodes.now c.push_in-right.new.nodes c.make_fork-2.new.nodes c.args.link c.args.slot c.push_in-right.result c.make_fork-2.result tree c.fork_at-fork.result at done
-    c.make_fork-2.ensures.others (c.make_fork-2.ensures.tree at.before done.made pair)
+    let more = push_right_more c.args.nodes.now c.push_in-right.new.nodes c.args.link c.args.slot c.push_in-right.result tree c.fork_at-fork.result can at done in
+    push_right c.args.nodes.now c.push_in-right.new.nodes c.put_more.new.nodes c.args.link c.args.slot c.push_in-right.result c.put_more.result tree c.fork_at-fork.result at done
+    c.put_more.ensures.others (c.put_more.ensures.tree at.before done.made more)
