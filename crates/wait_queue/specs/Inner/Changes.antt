@@ -34,14 +34,14 @@ pub record IsPair (nodes : List NodeData) (slot left right : ℕ) (before after 
   pub order : Precedes nodes before after
   pub place : slot ≡ first_of after
 
--- A fork, with the links of two trees. A slot of one is not yet in its size and its least estimate.
+-- A fork that has the links of two trees. Its size and its least estimate lack a slot of one.
 pub record HasMore (nodes : List NodeData) (place : ℕ) (fork : ForkData) (slot : ℕ) (before after : Tree) : Type 0 where
   pub pair : IsPair nodes place fork.left fork.right before after
   pub inside : slot < length nodes
   pub counted : fork.size + 1 ≡ size_of before + size_of after
   pub lowest : min fork.least (estimate_of nodes slot) ≡ min (least_of nodes before) (least_of nodes after)
 
--- A fork, with the links of two trees. A slot of neither is still in its size and its least estimate.
+-- A fork that has the links of two trees. Its size and its least estimate count one slot more.
 pub record HasLess (nodes : List NodeData) (place : ℕ) (fork : ForkData) (slot : ℕ) (before after : Tree) : Type 0 where
   pub pair : IsPair nodes place fork.left fork.right before after
   pub inside : slot < length nodes
