@@ -19,7 +19,7 @@ use Rattle.sched_jobs.specs.Shows.{HasNoneWaiting, IsFirstWaiting, arrival_of, p
 use Rattle.sched_core.specs.declared.assigned.Assigned.{Assigned}
 use Rattle.sched_core.specs.declared.scheduler.Core.{Core}
 use Rattle.sched_core.specs.Shows.{ShowsCore, ShowsKept}
-use Rattle.sched_core.specs.Inner.{HasNonePassing, IsHeadSlot, IsPassing}
+use Rattle.sched_core.specs.Inner.{HasNonePassing, IsBriefLimit, IsHeadSlot, IsLargestVacant, IsPassing}
 use Rattle.sched_core.proofs.JobLemmas.{slot_waits}
 use Rattle.sched_core.proofs.CoreLemmas.{core_safe}
 
@@ -101,9 +101,19 @@ module _ (n : ℕ) (P : Region → Type 0) where
 
 -- ---- the first that may pass
 
+-- a job that may pass has a vacant block
+pub pass_some : (o : Option Reservation) (w : Sched) (job : SchedJob) (m : ℕ) → IsPassBlockBy o w job m → HasNone w.dim job.dim (IsVacant w) → ⊥
+pass_some None w job m first none = none m first.in_cube first.right
+pass_some (Some reserved) w job m (inl first) none = none m first.in_cube first.right.0
+pass_some (Some reserved) w job m (inr both) none = none m both.2.in_cube both.2.right
+
 module _ (w : Sched) (core : Core) (k : ShowsCore w core) where
   fits : (i : ℕ) (other : SchedWait) → Waits w i other → other.job.dim ≤ w.dim
   fits i other waits = ((core_safe w core k).waiting i other waits).fits
+
+  -- with no vacant block none may pass
+  pub none_vacant : (o : Option Reservation) → ((d : ℕ) → d ≤ w.dim → HasNone w.dim d (IsVacant w)) → HasNonePassing o w
+  none_vacant o none i other waits m free = pass_some o w other.job m free (none other.job.dim (fits i other waits))
 
   -- what is first of the jobs that are wanted is first of those that have a block
   module _ (o : Option Reservation) (any most : Option ℕ) (limit : ℕ)
@@ -131,26 +141,22 @@ module _ (w : Sched) (core : Core) (k : ShowsCore w core) where
   found_wanted any most limit slot wait is at = subst (λ (x : SchedWait). IsWanted any most limit x.job) (wait_is (sym is.at ∙ at)) is.wanted
 
   -- with no reservation
-  module _ (any : Option ℕ) (largest : IsLargest w.dim (IsVacant w) any) where
-    pub any_wanted : (i : ℕ) (other : SchedWait) → Waits w i other → (m : ℕ) → IsFirst w.dim other.job.dim (IsVacant w) m → IsWanted any None 0 other.job
+  module _ (most : ℕ) (largest : IsLargestVacant w most) where
+    pub any_wanted : (i : ℕ) (other : SchedWait) → Waits w i other → (m : ℕ) → IsFirst w.dim other.job.dim (IsVacant w) m → IsWanted (Some most) None 0 other.job
     any_wanted i other waits m first =
-        inl (has_within w.dim (IsVacant w) any largest other.job (fits i other waits) (λ none. none m first.in_cube first.right))
+        inl (has_within w.dim (IsVacant w) (Some most) (largest, tt) other.job (fits i other waits) (λ none. none m first.in_cube first.right))
 
-    pub any_found : (slot : ℕ) (wait : SchedWait) → IsFirstWaiting any None 0 w core.jobs slot → place_of core.jobs slot ≡ Waiting wait
+    pub any_found : (slot : ℕ) (wait : SchedWait) → IsFirstWaiting (Some most) None 0 w core.jobs slot → place_of core.jobs slot ≡ Waiting wait
         → HasNone w.dim wait.job.dim (IsVacant w) → ⊥
-    any_found slot wait is at none = elim (found_wanted any None 0 slot wait is at) [
+    any_found slot wait is at none = elim (found_wanted (Some most) None 0 slot wait is at) [
       | inl within ↦
-          within_has w.dim (IsVacant w) any largest wait.job (fits (arrival_of core.jobs slot) wait (slot_waits w core.jobs k.jobs slot wait at)) within none
+          within_has w.dim (IsVacant w) (Some most) (largest, tt) wait.job (fits (arrival_of core.jobs slot) wait (slot_waits w core.jobs k.jobs slot wait at)) within none
       | inr other ↦ other.0
     ]
 
-  -- around a reserved block
-  module _ (number : ℕ) (avoid : Region) (any most : Option ℕ) (limit latest : ℕ) (besides : IsLargest w.dim (IsVacantBeside w avoid) any)
-      (largest : IsLargest w.dim (IsVacant w) most) (is_latest : IsLatest w avoid latest)
+  -- what the slack of a reserved block says of jobs
+  module _ (avoid : Region) (limit latest : ℕ) (is_latest : IsLatest w avoid latest)
       (brief : (estimate : ℕ) → ((0 < estimate) × (estimate ≤ limit)) ↔ ((latest < NEVER) × (end_after core.time estimate ≤ latest))) where
-    abbrev kept : Reservation
-    kept = record { job = number; block = avoid }
-
     brief_short : (job : SchedJob) → IsBrief w job avoid → (0 < job.estimate) × (job.estimate ≤ limit)
     brief_short job (t, is, known, early) =
         let low : t ≤ latest = latest_least w avoid t latest is is_latest.all in
@@ -158,21 +164,33 @@ module _ (w : Sched) (core : Core) (k : ShowsCore w core) where
         let now : end_after core.time job.estimate ≤ t = subst (λ s. end_after s job.estimate ≤ t) k.time early in
         (brief job.estimate).1 (omega (arith, high, known), omega (arith, now, low))
 
-    short_brief : (job : SchedJob) → 0 < job.estimate → job.estimate ≤ limit → IsBrief w job avoid
-    short_brief job some short =
-        let is = (brief job.estimate).0 (some, short) in
+    short_brief : (job : SchedJob) → (0 < job.estimate) × (job.estimate ≤ limit) → IsBrief w job avoid
+    short_brief job short =
+        let is = (brief job.estimate).0 short in
         (latest, is_latest, is.0, subst (λ s. end_after s job.estimate ≤ latest) (sym k.time) is.1)
 
-    pub around_wanted : (i : ℕ) (other : SchedWait) → Waits w i other → (m : ℕ) → IsPassBlockBy (Some kept) w other.job m → IsWanted any most limit other.job
+    pub brief_limit : IsBriefLimit w avoid limit
+    brief_limit job = (brief_short job, short_brief job)
+
+  -- around a reserved block
+  module _ (number : ℕ) (avoid : Region) (any : Option ℕ) (most limit : ℕ) (besides : IsLargest w.dim (IsVacantBeside w avoid) any)
+      (largest : IsLargestVacant w most) (limited : (any ≡ Some most) ⊎ IsBriefLimit w avoid limit) where
+    abbrev kept : Reservation
+    kept = record { job = number; block = avoid }
+
+    pub around_wanted : (i : ℕ) (other : SchedWait) → Waits w i other → (m : ℕ) → IsPassBlockBy (Some kept) w other.job m → IsWanted any (Some most) limit other.job
     around_wanted i other waits m free = elim free [
       | inl first ↦
           inl (has_within w.dim (IsVacantBeside w avoid) any besides other.job (fits i other waits) (λ none. none m first.in_cube first.right))
       | inr both ↦
-          let short = brief_short other.job both.1 in
-          inr (has_within w.dim (IsVacant w) most largest other.job (fits i other waits) (λ none. none m both.2.in_cube both.2.right), short.0, short.1)
+          let within = has_within w.dim (IsVacant w) (Some most) (largest, tt) other.job (fits i other waits) (λ none. none m both.2.in_cube both.2.right) in
+          elim limited [
+            | inl same ↦ inl (subst (λ (o : Option ℕ). IsWithin o other.job) (sym same) within)
+            | inr limits ↦ let short = (limits other.job).0 both.1 in inr (within, short.0, short.1)
+          ]
     ]
 
-    module _ (slot : ℕ) (wait : SchedWait) (is : IsFirstWaiting any most limit w core.jobs slot) (at : place_of core.jobs slot ≡ Waiting wait) where
+    module _ (slot : ℕ) (wait : SchedWait) (is : IsFirstWaiting any (Some most) limit w core.jobs slot) (at : place_of core.jobs slot ≡ Waiting wait) where
       narrow : wait.job.dim ≤ w.dim
       narrow = fits (arrival_of core.jobs slot) wait (slot_waits w core.jobs k.jobs slot wait at)
 
@@ -180,15 +198,19 @@ module _ (w : Sched) (core : Core) (k : ShowsCore w core) where
           → IsPassBlockBy (Some kept) w wait.job m
       around_free m found = elim found [
         | inl first ↦ inl first
-        | inr (none, first) ↦ elim (found_wanted any most limit slot wait is at) [
+        | inr (none, first) ↦ elim (found_wanted any (Some most) limit slot wait is at) [
           | inl within ↦ absurd (within_has w.dim (IsVacantBeside w avoid) any besides wait.job narrow within none)
-          | inr (_, some, short) ↦ inr (none, short_brief wait.job some short, first)
+          | inr (within, some, short) ↦ elim limited [
+            | inl same ↦
+                absurd (within_has w.dim (IsVacantBeside w avoid) any besides wait.job narrow (subst (λ (o : Option ℕ). IsWithin o wait.job) (sym same) within) none)
+            | inr limits ↦ inr (none, (limits wait.job).1 (some, short), first)
+          ]
         ]
       ]
 
       pub around_found : HasNone w.dim wait.job.dim (IsVacant w) → ⊥
-      around_found none = elim (found_wanted any most limit slot wait is at) [
+      around_found none = elim (found_wanted any (Some most) limit slot wait is at) [
         | inl within ↦
             within_has w.dim (IsVacantBeside w avoid) any besides wait.job narrow within (λ m inside right. none m inside right.0)
-        | inr (within, _, _) ↦ within_has w.dim (IsVacant w) most largest wait.job narrow within none
+        | inr (within, _, _) ↦ within_has w.dim (IsVacant w) (Some most) (largest, tt) wait.job narrow within none
       ]

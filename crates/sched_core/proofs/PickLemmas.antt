@@ -5,10 +5,8 @@ use Rattle.std.proofs.lemmas.Bool.{false≢true}
 use Rattle.cube_shape.specs.declared.region.Region.{Region}
 use Rattle.cube_shape.specs.Region.{IsAligned, block}
 use Rattle.sched_law.specs.declared.job.TheConstants.{NEVER}
-use Rattle.sched_law.specs.declared.job.SchedJob.{SchedJob}
 use Rattle.sched_law.specs.declared.job.SchedWait.{SchedWait}
 use Rattle.sched_law.specs.declared.job.Place.TheVariants.{Waiting, Running}
-use Rattle.sched_law.specs.declared.job.Reservation.{Reservation}
 use Rattle.sched_law.specs.State.{Sched, IsVacant, at, block_of, end_after, held, pass, reserve, set, start}
 use Rattle.sched_law.specs.Policy.{Chooses, Decides, HasNone, HasUsable, IsBlocked, IsFirst, IsLatest, IsPassBlockBy, MayPass, Prepares}
 use Rattle.sched_law.specs.Policy as policy
@@ -30,7 +28,7 @@ use Rattle.sched_core.specs.Answers.{IsAnnounced, IsPrepared, answer_of, slot_of
 use Rattle.sched_core.specs.Inner.{HasNonePassing, IsHeadSlot, IsPassing, IsPick, PassesHead, StartsHead}
 use Rattle.sched_core.proofs.JobLemmas.{slot_once, slot_waits, waiting_present}
 use Rattle.sched_core.proofs.CoreLemmas.{core_safe}
-use Rattle.sched_core.proofs.ChoiceLemmas.{kept_none}
+use Rattle.sched_core.proofs.ChoiceLemmas.{kept_none, pass_some}
 use Rattle.sched_blocks.proofs.ExistLemmas.{latest_never, some_chosen}
 
 -- ---- preparations
@@ -119,11 +117,6 @@ pub pick_waits : (w v : Sched) (jobs : Jobs) (slot : ℕ) (head : IsHeadSlot w j
     → Prepares w (arrival_of jobs slot) head.head v → HasNonePassing v.reserved v → Decides w None v
 pick_waits w v jobs slot head none prepares nobody =
     policy.waits (arrival_of jobs slot) head.head v (head.is_head, none) prepares (λ j wait may. nobody j wait may.1 may.2.0 may.2.1)
-
-pass_some : (o : Option Reservation) (w : Sched) (job : SchedJob) (m : ℕ) → IsPassBlockBy o w job m → HasNone w.dim job.dim (IsVacant w) → ⊥
-pass_some None w job m first none = none m first.in_cube first.right
-pass_some (Some reserved) w job m (inl first) none = none m first.in_cube first.right.0
-pass_some (Some reserved) w job m (inr both) none = none m both.2.in_cube both.2.right
 
 pub pick_passes : (w v : Sched) (jobs : Jobs) (slot : ℕ) (it : Assigned) (head : IsHeadSlot w jobs slot) → HasNone w.dim head.head.job.dim (IsVacant w)
     → Prepares w (arrival_of jobs slot) head.head v → IsPassing v.reserved v jobs it → PassesHead w v jobs (record { slot = it.slot; head = slot; block = it.block })

@@ -1,12 +1,13 @@
 -- The parts of a decision.
-use Rattle.std.specs.Prelude.{◌≡◌, ◌≢◌, ℕ, ◌<◌, ◌⊎◌, ◌==◌, if◌then◌else◌, Option, Some, None}
+use Rattle.std.specs.Prelude.{◌≡◌, ◌≢◌, ◌↔◌, ℕ, ◌<◌, ◌≤◌, ◌⊎◌, ◌==◌, if◌then◌else◌, Option, Some, None}
 use Rattle.cube_shape.specs.declared.region.Region.{Region}
 use Rattle.cube_shape.specs.Region.{block}
 use Rattle.sched_law.specs.declared.job.Place.TheVariants.{Waiting}
+use Rattle.sched_law.specs.declared.job.SchedJob.{SchedJob}
 use Rattle.sched_law.specs.declared.job.SchedWait.{SchedWait}
 use Rattle.sched_law.specs.declared.job.Reservation.{Reservation}
 use Rattle.sched_law.specs.State.{Sched, IsVacant, Waits, overlaps}
-use Rattle.sched_law.specs.Policy.{Decides, HasNone, IsFirst, IsHead, IsPassBlockBy, Precedes, Prepares}
+use Rattle.sched_law.specs.Policy.{Decides, HasNone, IsBrief, IsFirst, IsHead, IsPassBlockBy, Precedes, Prepares}
 use Rattle.sched_jobs.specs.declared.jobs.Jobs.{Jobs}
 use Rattle.sched_jobs.specs.Shows.{arrival_of, capacity_of, place_of}
 use Rattle.sched_core.specs.declared.assigned.Assigned.{Assigned}
@@ -28,6 +29,15 @@ pub record IsHeadSlot (w : Sched) (jobs : Jobs) (slot : ℕ) : Type 0 where
   pub head : SchedWait
   pub at : place_of jobs slot ≡ Waiting head
   pub is_head : IsHead w (arrival_of jobs slot) head
+
+-- The largest dimension of a vacant block.
+abbrev pub IsLargestVacant : Sched → ℕ → Type 0
+IsLargestVacant w most = (d : ℕ) → d ≤ w.dim → HasNone w.dim d (IsVacant w) ↔ (most < d)
+
+-- The brief jobs are those with a known estimate of at most the limit.
+abbrev pub IsBriefLimit : Sched → Region → ℕ → Type 0
+IsBriefLimit w avoid limit =
+    (job : SchedJob) → IsBrief w job avoid ↔ ((0 < job.estimate) × (job.estimate ≤ limit))
 
 -- A slot has a waiting job with a block beside the reservation; no job with one comes before it.
 pub record IsPassing (o : Option Reservation) (w : Sched) (jobs : Jobs) (it : Assigned) : Type 0 where

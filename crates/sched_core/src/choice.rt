@@ -8,7 +8,7 @@ ghost use Rattle.sched_law.specs.State.{Sched, IsVacant};
 ghost use Rattle.sched_law.specs.Policy.{HasNone, IsFirst, IsHead, IsVacantBeside};
 ghost use Rattle.sched_blocks.specs.Shows.{Shows};
 ghost use Rattle.sched_core.specs.Shows.{ShowsCore, dim_of};
-ghost use Rattle.sched_core.specs.Inner.{HasNonePassing, IsHeadSlot, IsPassing};
+ghost use Rattle.sched_core.specs.Inner.{HasNonePassing, IsBriefLimit, IsHeadSlot, IsLargestVacant, IsPassing};
 
 use crate::assigned::Assigned;
 use crate::scheduler::Core;
@@ -53,15 +53,15 @@ impl Core {
     }
 
     // Returns the first waiting job with a vacant block, and this block.
-    fn passing_any(&self) -> Option<Assigned>
-        requires { (w : Sched) × ShowsCore w self.now }
+    fn passing_any(&self, most: u32) -> Option<Assigned>
+        requires shows { (w : Sched) × ShowsCore w self.now }
+        requires most { (w : Sched) → ShowsCore w self.now → IsLargestVacant w most }
         ensures first { (w : Sched) → ShowsCore w self.now
             → IfSome result (IsPassing None w self.now.jobs) }
         ensures none { (w : Sched) → ShowsCore w self.now
             → IfNone result (HasNonePassing None w) }
     {
-        let any = self.blocks.largest_vacant();
-        let Some(slot) = self.jobs.first_passing(any, None, 0) else {
+        let Some(slot) = self.jobs.first_passing(Some(most), None, 0) else {
             return None;
         };
         let Place::Waiting(wait) = self.jobs.place(slot) else {
@@ -73,9 +73,23 @@ impl Core {
         Some(Assigned { slot, block })
     }
 
+    // Returns the longest estimate with which a job may start in a reserved block, or 0. With a
+    // block of dimension `most` beside the reserved one it returns 0, since no job then has to.
+    fn limit_beside(&self, any: Option<u32>, most: u32, avoid: Region) -> u64
+        requires { IsAligned (dim_of self.now) avoid }
+        ensures { (w : Sched) → ShowsCore w self.now
+            → (any ≡ Some most) ⊎ IsBriefLimit w avoid result }
+    {
+        if any == Some(most) {
+            return 0;
+        }
+        slack(self.blocks.latest(avoid), self.time)
+    }
+
     // Returns the first waiting job that may start beside a reserved block, and its block.
-    fn passing_around(&self, avoid: Region) -> Option<Assigned>
+    fn passing_around(&self, most: u32, avoid: Region) -> Option<Assigned>
         requires shows { (w : Sched) × ShowsCore w self.now }
+        requires most { (w : Sched) → ShowsCore w self.now → IsLargestVacant w most }
         requires avoid { IsAligned (dim_of self.now) avoid }
         ensures first { (w : Sched) (kept : ReservationData) → ShowsCore w self.now
             → kept.block ≡ avoid → IfSome result (IsPassing (Some kept) w self.now.jobs) }
@@ -83,9 +97,8 @@ impl Core {
             → kept.block ≡ avoid → IfNone result (HasNonePassing (Some kept) w) }
     {
         let any = self.blocks.largest_beside(avoid);
-        let most = self.blocks.largest_vacant();
-        let limit = slack(self.blocks.latest(avoid), self.time);
-        let Some(slot) = self.jobs.first_passing(any, most, limit) else {
+        let limit = self.limit_beside(any, most, avoid);
+        let Some(slot) = self.jobs.first_passing(any, Some(most), limit) else {
             return None;
         };
         let Place::Waiting(wait) = self.jobs.place(slot) else {
@@ -105,9 +118,12 @@ impl Core {
         ensures none { (w : Sched) → ShowsCore w self.now
             → IfNone result (HasNonePassing w.reserved w) }
     {
-        let Some(kept) = self.reserved else {
-            return self.passing_any();
+        let Some(most) = self.blocks.largest_vacant() else {
+            return None;
         };
-        self.passing_around(kept.block)
+        let Some(kept) = self.reserved else {
+            return self.passing_any(most);
+        };
+        self.passing_around(most, kept.block)
     }
 }

@@ -30,9 +30,8 @@ impl Core {
     }
 
     // Returns the first waiting job with a vacant block, and this block.
-    fn passing_any(&self) -> Option<Assigned> {
-        let any = self.blocks.largest_vacant();
-        let Some(slot) = self.jobs.first_passing(any, None, 0) else {
+    fn passing_any(&self, most: u32) -> Option<Assigned> {
+        let Some(slot) = self.jobs.first_passing(Some(most), None, 0) else {
             return None;
         };
         let Place::Waiting(wait) = self.jobs.place(slot) else {
@@ -44,12 +43,20 @@ impl Core {
         Some(Assigned { slot, block })
     }
 
+    // Returns the longest estimate with which a job may start in a reserved block, or 0. With a
+    // block of dimension `most` beside the reserved one it returns 0, since no job then has to.
+    fn limit_beside(&self, any: Option<u32>, most: u32, avoid: Region) -> u64 {
+        if any == Some(most) {
+            return 0;
+        }
+        slack(self.blocks.latest(avoid), self.time)
+    }
+
     // Returns the first waiting job that may start beside a reserved block, and its block.
-    fn passing_around(&self, avoid: Region) -> Option<Assigned> {
+    fn passing_around(&self, most: u32, avoid: Region) -> Option<Assigned> {
         let any = self.blocks.largest_beside(avoid);
-        let most = self.blocks.largest_vacant();
-        let limit = slack(self.blocks.latest(avoid), self.time);
-        let Some(slot) = self.jobs.first_passing(any, most, limit) else {
+        let limit = self.limit_beside(any, most, avoid);
+        let Some(slot) = self.jobs.first_passing(any, Some(most), limit) else {
             return None;
         };
         let Place::Waiting(wait) = self.jobs.place(slot) else {
@@ -63,9 +70,12 @@ impl Core {
 
     /// Returns the first waiting job that may start beside the reservation, and its block.
     pub(crate) fn passing(&self) -> Option<Assigned> {
-        let Some(kept) = self.reserved else {
-            return self.passing_any();
+        let Some(most) = self.blocks.largest_vacant() else {
+            return None;
         };
-        self.passing_around(kept.block)
+        let Some(kept) = self.reserved else {
+            return self.passing_any(most);
+        };
+        self.passing_around(most, kept.block)
     }
 }
