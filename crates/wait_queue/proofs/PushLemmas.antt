@@ -4,7 +4,7 @@ use Rattle.wait_queue.specs.declared.nodes.Fork.{Fork as ForkData}
 use Rattle.wait_queue.specs.declared.nodes.QueueNode.{QueueNode as NodeData}
 use Rattle.wait_queue.specs.Nodes.{estimate_of, key_of}
 use Rattle.wait_queue.specs.Lists.{Has}
-use Rattle.wait_queue.specs.Inner.Tree.{Tree, leaf, branch, IsAt, first_of, least_of, size_of, slots_of}
+use Rattle.wait_queue.specs.Inner.Tree.{Tree, leaf, branch, IsAt, first_of, fork_of, least_of, size_of, slots_of}
 use Rattle.wait_queue.specs.Inner.Changes.{CanPush, HasMore, HasPushed, IsPair, KeepsItems}
 use Rattle.wait_queue.proofs.ListLemmas.{has_left, has_right, has_cases}
 use Rattle.wait_queue.proofs.TreeLemmas.{BranchAt, apart, at_kept, has_first, least_kept, size_is_length}
@@ -56,13 +56,17 @@ push_here_pair nodes link slot tree can = record {
   place = refl;
 }
 
-pub push_here : (old new : List NodeData) (link slot made : ℕ) (tree : Tree)
+pub push_here : (old new : List NodeData) (link slot made : ℕ) (tree : Tree) → CanPush old link slot tree
     → KeepsItems old new (slot ∷ []) → IsAt new made (branch tree (leaf slot)) → HasPushed old new slot made tree
-push_here old new link slot made tree keeps at = record {
+push_here old new link slot made tree can keeps at = record {
   made = branch tree (leaf slot);
   found = at;
   appended = refl;
   rest = keeps_more old new (slot ∷ []) (slots_of tree ++ slot ∷ []) keeps (λ u h. has_right (slots_of tree) (slot ∷ []) u h);
+  head = keeps.same_forks (first_of tree) (λ h. elim h [
+    | inl same ↦ (let less = can.above (first_of tree) (has_first tree) in let equal = ap (key_of old) same in omega arith)
+    | inr none ↦ none
+  ]);
 }
 
 -- the item can be appended to the right part
@@ -74,22 +78,25 @@ can_push_right nodes link slot tree found can at = record {
   above = λ u h. can.above u (subst (λ whole. Has (slots_of whole) u) (sym at.whole) (has_right (slots_of at.before) (slots_of at.after) u h));
 }
 
+-- nothing is written to the left
+left_clear : (old : List NodeData) (link slot : ℕ) (tree : Tree) (found : ForkData) → CanPush old link slot tree
+    → (at : BranchAt old link tree found) → (u : ℕ) → Has (slots_of at.before) u → Has (slots_of at.after ++ slot ∷ []) u → ⊥
+left_clear old link slot tree found can at u h written = elim (has_cases (slots_of at.after) (slot ∷ []) u written) [
+  | inl later ↦ apart old at.before at.after at.order u u h later refl
+  | inr own ↦ (elim own [
+    | inl same ↦ (let less = can.above u (subst (λ whole. Has (slots_of whole) u) (sym at.whole) (has_left (slots_of at.before) (slots_of at.after) u h)) in
+        let equal = ap (key_of old) same in omega arith)
+    | inr none ↦ none
+  ])
+]
+
 -- then the two parts can be joined again
 pub push_right_pair : (old mid : List NodeData) (link slot right : ℕ) (tree : Tree) (found : ForkData) → CanPush old link slot tree
     → (at : BranchAt old link tree found) → (done : HasPushed old mid slot right at.after)
     → IsPair mid (link / 2) found.left right at.before done.made
 push_right_pair old mid link slot right tree found can at done =
-    let clear : (u : ℕ) → Has (slots_of at.before) u → Has (slots_of at.after ++ slot ∷ []) u → ⊥ =
-    λ u h written. elim (has_cases (slots_of at.after) (slot ∷ []) u written) [
-      | inl later ↦ apart old at.before at.after at.order u u h later refl
-      | inr own ↦ (elim own [
-        | inl same ↦ (let less = can.above u (subst (λ whole. Has (slots_of whole) u) (sym at.whole) (has_left (slots_of at.before) (slots_of at.after) u h)) in
-            let equal = ap (key_of old) same in omega arith)
-        | inr none ↦ none
-      ])
-    ] in
     record {
-      first_tree = at_kept old mid found.left (slots_of at.after ++ slot ∷ []) at.before done.rest (λ u h other. clear u h) at.to_left;
+      first_tree = at_kept old mid found.left (slots_of at.after ++ slot ∷ []) at.before done.rest (λ u h other. left_clear old link slot tree found can at u h) at.to_left;
       second_tree = done.found;
       order = λ u v hu hv.
           let less : key_of old u < key_of old v = elim (has_cases (slots_of at.after) (slot ∷ []) v (has_appended (slots_of done.made) (slots_of at.after ++ slot ∷ []) v done.appended hv)) [
@@ -104,11 +111,10 @@ push_right_pair old mid link slot right tree found can at done =
       place = at.place ∙ sym (same_first done.made at.after (slot ∷ []) done.appended);
     }
 
--- by the fork with the new link, which lacks the item
+-- by the fork, which lacks the new link and the item
 pub push_right_more : (old mid : List NodeData) (link slot right : ℕ) (tree : Tree) (found : ForkData) → CanPush old link slot tree
     → (at : BranchAt old link tree found) → (done : HasPushed old mid slot right at.after)
-    → HasMore mid (link / 2) (record { least = found.least; left = found.left; right = right; size = found.size; common = found.common })
-    slot at.before done.made
+    → HasMore mid (link / 2) right slot at.before done.made
 push_right_more old mid link slot right tree found can at done =
     let appended : slots_of at.after ++ slot ∷ [] ≡ slots_of done.made = sym done.appended in
     let size : size_of done.made ≡ size_of at.after + 1 = (
@@ -123,19 +129,24 @@ push_right_more old mid link slot right tree found can at done =
       | inl later ↦ inl later
       | inr own ↦ (elim own [ inl same ↦ inr same | inr none ↦ absurd none ])
     ]) in
+    let same : fork_of mid (link / 2) ≡ found =
+    ap (fork_of mid) at.place ∙ done.head ∙ sym (ap (fork_of old) at.place) ∙ sym at.read in
+    let same_size = ap (λ f. f.size) same in
+    let same_least = ap (λ f. f.least) same in
     let kept_before = least_kept old mid at.before (λ u h. done.rest.same_estimates u) in
     let kept_after = least_kept old mid at.after (λ u h. done.rest.same_estimates u) in
     record {
-      pair = push_right_pair old mid link slot right tree found can at done;
+      pair = subst (λ left. IsPair mid (link / 2) left right at.before done.made) (sym (ap (λ f. f.left) same))
+          (push_right_pair old mid link slot right tree found can at done);
       inside = (let own = can.inside in let same = done.rest.same_length in omega arith);
       counted = (let counted = at.counted in omega arith);
       lowest = (let lowest = at.lowest in omega arith);
     }
 
-pub push_right : (old mid new : List NodeData) (link slot right made : ℕ) (tree : Tree) (found : ForkData)
+pub push_right : (old mid new : List NodeData) (link slot right made : ℕ) (tree : Tree) (found : ForkData) → CanPush old link slot tree
     → (at : BranchAt old link tree found) → (done : HasPushed old mid slot right at.after)
     → KeepsItems mid new (link / 2 ∷ []) → IsAt new made (branch at.before done.made) → HasPushed old new slot made tree
-push_right old mid new link slot right made tree found at done keeps joined =
+push_right old mid new link slot right made tree found can at done keeps joined =
     let whole : slots_of tree ≡ slots_of at.before ++ slots_of at.after = ap slots_of at.whole in
     let all : slots_of at.before ++ slots_of done.made ≡ slots_of tree ++ slot ∷ [] =
     ap (λ xs. slots_of at.before ++ xs) done.appended
@@ -152,4 +163,11 @@ push_right old mid new link slot right made tree found at done keeps joined =
           (has_right (slots_of at.before) (slots_of done.made) u (has_appended (slots_of at.after ++ slot ∷ []) (slots_of done.made) u (sym done.appended) h))))
           (keeps_more mid new (link / 2 ∷ []) (slots_of tree ++ slot ∷ []) keeps
           (λ u h. elim h [ inl same ↦ has_left (slots_of tree) (slot ∷ []) u (subst (Has (slots_of tree)) (sym same) here) | inr none ↦ absurd none ]));
+      head = subst (λ u. fork_of new u ≡ fork_of old u) (sym (ap first_of at.whole))
+          (keeps.same_forks (first_of at.before) (λ h. elim h [
+            | inl same ↦ apart old at.before at.after at.order (first_of at.before) (first_of at.after) (has_first at.before) (has_first at.after)
+                (same ∙ at.place)
+            | inr none ↦ none
+          ])
+          ∙ done.rest.same_forks (first_of at.before) (left_clear old link slot tree found can at (first_of at.before) (has_first at.before)));
     }

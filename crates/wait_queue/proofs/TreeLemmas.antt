@@ -238,6 +238,7 @@ pub record BranchAt (nodes : List NodeData) (link : ℕ) (tree : Tree) (found : 
   pub before : Tree
   pub after : Tree
   pub whole : tree ≡ branch before after
+  pub read : found ≡ fork_of nodes (link / 2)
   pub to_left : IsAt nodes found.left before
   pub to_right : IsAt nodes found.right after
   pub order : Precedes nodes before after
@@ -267,6 +268,7 @@ branch_at nodes link (branch before after) found at odd is =
       before = before;
       after = after;
       whole = refl;
+      read = is;
       to_left = one;
       to_right = two;
       order = at.held.0.order;

@@ -158,14 +158,14 @@ pub(crate) fn make_fork(
     2 * slot + 1
 }
 
-/// Writes a fork with the links to its two trees, to one of which an item was appended. Returns the
-/// link to it.
-pub(crate) fn put_more(nodes: &mut [QueueNode], place: u32, fork: Fork, slot: u32) -> u32
-    requires { (before : Tree) × ((after : Tree) × HasMore nodes.old place fork slot before after) }
+/// Writes a fork's new link to its right, where an item was appended. Returns the link to the fork.
+pub(crate) fn put_more(nodes: &mut [QueueNode], place: u32, right: u32, slot: u32) -> u32
+    requires { (before : Tree) × ((after : Tree) × HasMore nodes.old place right slot before after) }
     ensures others { KeepsItems nodes.old nodes.new (place ∷ []) }
-    ensures tree { (before after : Tree) → HasMore nodes.old place fork slot before after
+    ensures tree { (before after : Tree) → HasMore nodes.old place right slot before after
         → IsAt nodes.new result (branch before after) }
 {
+    let fork = fork_at(nodes, place);
     let least = fork.least.min(estimate_at(nodes, slot));
     let size = fork.size + 1;
     put_fork(
@@ -173,6 +173,7 @@ pub(crate) fn put_more(nodes: &mut [QueueNode], place: u32, fork: Fork, slot: u3
         place,
         Fork {
             least,
+            right,
             size,
             ..fork
         },

@@ -82,7 +82,7 @@ pub(crate) fn push_in(nodes: &mut [QueueNode], link: u32, slot: u32) -> u32
     }
     let fork = fork_at(nodes, link / 2);
     let right = push_in(nodes, fork.right, slot);
-    put_more(nodes, link / 2, Fork { right, ..fork }, slot)
+    put_more(nodes, link / 2, right, slot)
 }
 
 /// Returns whether a link leads to the leaf of a slot.

@@ -34,12 +34,12 @@ pub record IsPair (nodes : List NodeData) (slot left right : ℕ) (before after 
   pub order : Precedes nodes before after
   pub place : slot ≡ first_of after
 
--- A fork that has the links of two trees. Its size and its least estimate lack a slot of one.
-pub record HasMore (nodes : List NodeData) (place : ℕ) (fork : ForkData) (slot : ℕ) (before after : Tree) : Type 0 where
-  pub pair : IsPair nodes place fork.left fork.right before after
+-- A fork lacks the new link to its right, and a slot below this in its size and least estimate.
+pub record HasMore (nodes : List NodeData) (place right slot : ℕ) (before after : Tree) : Type 0 where
+  pub pair : IsPair nodes place (fork_of nodes place).left right before after
   pub inside : slot < length nodes
-  pub counted : fork.size + 1 ≡ size_of before + size_of after
-  pub lowest : min fork.least (estimate_of nodes slot) ≡ min (least_of nodes before) (least_of nodes after)
+  pub counted : (fork_of nodes place).size + 1 ≡ size_of before + size_of after
+  pub lowest : min (fork_of nodes place).least (estimate_of nodes slot) ≡ min (least_of nodes before) (least_of nodes after)
 
 -- A fork that has the links of two trees. Its size and its least estimate count one slot more.
 pub record HasLess (nodes : List NodeData) (place : ℕ) (fork : ForkData) (slot : ℕ) (before after : Tree) : Type 0 where
@@ -54,12 +54,14 @@ pub record CanPush (nodes : List NodeData) (link slot : ℕ) (tree : Tree) : Typ
   pub inside : slot < length nodes
   pub above : (u : ℕ) → Has (slots_of tree) u → key_of nodes u < key_of nodes slot
 
--- The slot was appended: there is a tree at the new link.
+-- The slot was appended: there is a tree at the new link. The fork in the first slot, which is none
+-- of the tree's, stays.
 pub record HasPushed (old new : List NodeData) (slot link : ℕ) (tree : Tree) : Type 0 where
   pub made : Tree
   pub found : IsAt new link made
   pub appended : slots_of made ≡ slots_of tree ++ slot ∷ []
   pub rest : KeepsItems old new (slots_of tree ++ slot ∷ [])
+  pub head : fork_of new (first_of tree) ≡ fork_of old (first_of tree)
 
 -- A list without a slot.
 abbrev pub without : ℕ → List ℕ → List ℕ

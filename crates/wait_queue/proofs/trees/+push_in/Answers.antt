@@ -11,7 +11,7 @@ make_fork-requires t c =
 
 pub returns-then-is_joined_here : goal.returns-then-is_joined_here
 returns-then-is_joined_here t c = λ tree can.
-    push_here c.args.nodes.now c.make_fork.new.nodes c.args.link c.args.slot c.make_fork.result tree c.make_fork.ensures.others
+    push_here c.args.nodes.now c.make_fork.new.nodes c.args.link c.args.slot c.make_fork.result tree can c.make_fork.ensures.others
     (c.make_fork.ensures.tree tree (leaf c.args.slot) (push_here_pair c.args.nodes.now c.args.link c.args.slot tree can))
 
 pub push_in-right-requires : goal.push_in-right-requires
@@ -34,5 +34,5 @@ returns t c = λ tree can.
     let at = branch_at c.args.nodes.now c.args.link tree c.fork_at-fork.result can.found odd c.fork_at-fork.ensures in
     let done = c.push_in-right.ensures at.after (can_push_right c.args.nodes.now c.args.link c.args.slot tree c.fork_at-fork.result can at) in
     let more = push_right_more c.args.nodes.now c.push_in-right.new.nodes c.args.link c.args.slot c.push_in-right.result tree c.fork_at-fork.result can at done in
-    push_right c.args.nodes.now c.push_in-right.new.nodes c.put_more.new.nodes c.args.link c.args.slot c.push_in-right.result c.put_more.result tree c.fork_at-fork.result at done
+    push_right c.args.nodes.now c.push_in-right.new.nodes c.put_more.new.nodes c.args.link c.args.slot c.push_in-right.result c.put_more.result tree c.fork_at-fork.result can at done
     c.put_more.ensures.others (c.put_more.ensures.tree at.before done.made more)
