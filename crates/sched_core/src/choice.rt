@@ -77,7 +77,8 @@ impl Core {
     // block of dimension `most` beside the reserved one it returns 0, since no job then has to.
     fn limit_beside(&self, any: Option<u32>, most: u32, avoid: Region) -> u64
         requires { IsAligned (dim_of self.now) avoid }
-        ensures { (w : Sched) → ShowsCore w self.now
+        ensures same { any ≡ Some most → result ≡ 0 }
+        ensures brief { (w : Sched) → ShowsCore w self.now
             → (any ≡ Some most) ⊎ IsBriefLimit w avoid result }
     {
         if any == Some(most) {

@@ -14,7 +14,7 @@ returns-in_default-clause-none c = λ w kept k same.
     let besides : IsLargest w.dim (IsVacantBeside w c.args.avoid) any = (c.largest_beside-any.ensures.largest w k.machine, c.largest_beside-any.ensures.none w k.machine) in
     subst (λ (r : Region). HasNonePassing (Some (record { job = kept.job; block = r })) w) (sym same)
     (none_passing w c.args.self.now k (Some (record { job = kept.job; block = c.args.avoid })) any (Some c.args.most) limit
-    (around_wanted w c.args.self.now k kept.job c.args.avoid any c.args.most limit besides (c.requires.most w k) (c.limit_beside-limit.ensures w k))
+    (around_wanted w c.args.self.now k kept.job c.args.avoid any c.args.most limit besides (c.requires.most w k) (c.limit_beside-limit.ensures.brief w k))
     (c.in_default.ensures.none w k.jobs))
 
 pub place-requires : goal.place-requires
@@ -32,7 +32,7 @@ pub returns-in_default-first_around-clause-none : goal.returns-in_default-first_
 returns-in_default-first_around-clause-none c = λ w kept k same.
     let any = c.largest_beside-any.result in
     let besides : IsLargest w.dim (IsVacantBeside w c.args.avoid) any = (c.largest_beside-any.ensures.largest w k.machine, c.largest_beside-any.ensures.none w k.machine) in
-    absurd (around_found w c.args.self.now k kept.job c.args.avoid any c.args.most c.limit_beside-limit.result besides (c.requires.most w k) (c.limit_beside-limit.ensures w k)
+    absurd (around_found w c.args.self.now k kept.job c.args.avoid any c.args.most c.limit_beside-limit.result besides (c.requires.most w k) (c.limit_beside-limit.ensures.brief w k)
     c.in-Some.slot c.in-Waiting.wait (c.in-Some.ensures.first w k.jobs) (sym c.place.ensures ∙ c.in-Waiting.is) (c.in_default-first_around.ensures.none w k))
 
 pub returns-clause-first : goal.returns-clause-first
@@ -44,7 +44,7 @@ returns-clause-first c = λ w kept k same.
     let at = sym c.place.ensures ∙ c.in-Waiting.is in
     subst (λ (r : Region). IsPassing (Some (record { job = kept.job; block = r })) w c.args.self.now.jobs (record { slot = c.in-Some.slot; block = c.in-Some-first_around.block })) (sym same)
     (first_passing w c.args.self.now k (Some (record { job = kept.job; block = c.args.avoid })) any (Some c.args.most) limit
-    (around_wanted w c.args.self.now k kept.job c.args.avoid any c.args.most limit besides (c.requires.most w k) (c.limit_beside-limit.ensures w k))
+    (around_wanted w c.args.self.now k kept.job c.args.avoid any c.args.most limit besides (c.requires.most w k) (c.limit_beside-limit.ensures.brief w k))
     (record { slot = c.in-Some.slot; block = c.in-Some-first_around.block }) c.in-Waiting.wait first.0 (c.in-Some.ensures.first w k.jobs) at first.1
-    (around_free w c.args.self.now k kept.job c.args.avoid any c.args.most limit besides (c.requires.most w k) (c.limit_beside-limit.ensures w k)
+    (around_free w c.args.self.now k kept.job c.args.avoid any c.args.most limit besides (c.requires.most w k) (c.limit_beside-limit.ensures.brief w k)
     c.in-Some.slot c.in-Waiting.wait (c.in-Some.ensures.first w k.jobs) at first.0 first.2))
