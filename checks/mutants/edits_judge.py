@@ -4,7 +4,8 @@ Of `region_bits` one is a mutant; one changes nothing, in a function that calls 
 in their common check; one has a name that does not exist, so that the front end refuses the check of all; one is right,
 and only the proof misses a name; one is stale. Three stand in functions that hold another one, so each pair has a copy.
 Two of `backoff` stand in the same check, and neither crate's verdicts are the other's. Two of a definition name the
-function that is proved over it, of which one does not read it. Words given here are passed on to `edits`.
+function that is proved over it, of which one does not read it. Two of `wait_queue` stand in a function that calls
+itself, of which no copy is proved. Words given here are passed on to `edits`.
 """
 import os
 import re
@@ -19,6 +20,7 @@ from checks.mutants.verdict import NAMES_ONLY, lines_of, verdict_of_event
 
 BITS, MEANING = "src/bits.rt", "specs/Represents.antt"
 FILL, MEANS = "bits[start..end].fill(taken);", "a p → bit_of bits p ≡ true"
+TREES, ALONE, LEAF = "src/trees.rt", "return fork.right;", "if is_leaf_of(fork.right, slot) {"
 NONE, WROTE, FOUND = "none_set(&bits[start..end])", "write(bits, n, region, true);", "return Some(region);"
 # By crate and name: file, old text, new text, the verdict, and the function that is proved over a definition.
 PLANTED = {
@@ -34,6 +36,8 @@ PLANTED = {
     "region_bits/definition_not_read": (MEANING, MEANS, MEANS.replace("true", "false"), "PROVED", "bits::none_set"),
     "backoff/wrong_body": ("src/pause.rt", "if burst <= LONGEST_BURST {", "if burst <= 2 * LONGEST_BURST {", "refused"),
     "backoff/unchanged": ("src/pause.rt", "burst: FIRST_BURST,", "burst: FIRST_BURST,", "PROVED"),
+    "wait_queue/a_wrong_body": (TREES, ALONE, ALONE.replace("right", "left"), "refused"),
+    "wait_queue/another_and_unchanged": (TREES, LEAF, LEAF, "PROVED"),
 }
 WRONG = "backoff/wrong_body"
 # A missing name, as a check reports it in one line and, where it lists names that are near, in two.
@@ -72,7 +76,7 @@ EVENTS = (
 def judged(folder, *words):
     """Returns the status of `edits`, which keeps verdicts in the folder, and what it says of each mutant there."""
     env = {**os.environ, "XDG_CACHE_HOME": f"{folder}/cache"}
-    command = [path("checks", "run"), "edits", "--from", folder, *words, "region_bits", "backoff"]
+    command = [path("checks", "run"), "edits", "--from", folder, *words, "region_bits", "backoff", "wait_queue"]
     status, said, _ = answer(command, "", text=True, env=env, stderr=None, timeout=None)
     return status, dict(re.findall(r"(?m)^(\w+/\S+): (\w+): ", said)), said
 
@@ -106,7 +110,7 @@ def of_all(folder, words):
     yield "a stale mutant fails before any check", status == 1 and told == {"region_bits/stale": "BAD"}, said
     _, _, said = judged(folder, "--plan")
     first = re.findall(r"(?m)^check 1: (\w+): ", said)
-    yield "crates beside one another share a check", sorted(first) == ["backoff", "region_bits"], said
+    yield "crates beside one another share a check", sorted(first) == ["backoff", "region_bits", "wait_queue"], said
     status, told, said = judged(folder, *words)
     yield "mutants that are not refused fail", status == 1, said
     for name, (_, _, _, wanted, *_) in PLANTED.items():

@@ -86,6 +86,13 @@ def proof_folders_of(function, texts):
     return [it for it in sorted(found) if it == f"proofs/{own}" or ends and it.endswith(ends)]
 
 
+def calls_itself(function, texts):
+    """Returns whether a function calls itself, by the folder of its proof files. A copy calls the function, and so has
+    other goals."""
+    folder = "/".join(["proofs", *function.module, *([function.owner] if function.owner else []), f"+{function.name}"])
+    return any(os.path.dirname(it) == folder for it in texts)
+
+
 def copied_proofs(folder, name, crate, texts):
     """Returns the proof files of a folder for a copy of their function that has this name."""
     there = f"{os.path.dirname(folder)}/{name}"
@@ -103,7 +110,7 @@ def as_a_copy(edit, number, crate, texts):
     text = texts[function.file]
     item = text[function.beginning(text) : function.end]
     folders = proof_folders_of(function, texts)
-    if "#[cycle" in item or len(folders) > 1:
+    if "#[cycle" in item or len(folders) > 1 or calls_itself(function, texts):
         return None
     for _, old, new in edit.pairs:
         if item.count(old) != 1:
