@@ -371,11 +371,11 @@ class Eraser:
     on_enum = on_struct
 
     def on_if(self, items, at, out):
-        """Nests an `if let` with `&&`, which has no `else`."""
-        body = at
-        while not is_tree(items, body, "{"):
-            body += 1
+        """Nests an `if let` with `&&`, which has no `else`. The guard of a match arm is no such `if`."""
+        body = next((n for n in range(at, len(items)) if is_tree(items, n, "{")), len(items))
         head = items[at + 1 : body]
+        if "=>" in shown(head):
+            return None
         both = next((n for n in range(len(head) - 1) if shown(head[n : n + 2]) == "&&"), None)
         if both is None or not any(it == "let" for it in head):
             return None

@@ -53,6 +53,9 @@ REFUSED = (
     "fn f() { if let Some(x) = y && x { g() } else { h() } }", "mod inner { }", "requires { x }", "ghost let x = 1;",
     "fn f() { write!(s, \"\")?; }", "extern \"Rust\" fn f() {}", "#[cfg(feature = \"x\")]\nmod m;")
 
+# A form that stays as it is.
+GUARD = "fn f() -> u32 { match x { Some(a) if a == b => 0, _ => 1 } }"
+
 
 def made_anew():
     """Sees that the committed text is what the eraser makes."""
@@ -204,6 +207,14 @@ def refuses(text):
     raise Wrong("the eraser takes it")
 
 
+def keeps(text):
+    """Sees that the eraser leaves a text as it is."""
+    eraser = erase.Eraser("crate", set())
+    eraser.file = "crate/file"
+    erased = erase.shown(eraser.erased(erase.parsed(text)))
+    must(erased.split() == text.split(), f"it becomes {erased!r}")
+
+
 def code_lines(text):
     return sum(bool(line.strip()) and not line.lstrip().startswith("//") for line in text.splitlines())
 
@@ -246,6 +257,7 @@ def rows_of():
     yield Row("an audit of what was left out and put in", audited)
     for text in REFUSED:
         yield Row(f"the eraser refuses {text[:40]!r}", refuses, (text,))
+    yield Row("the eraser keeps the guard of a match arm", keeps, (GUARD,))
     yield Row("the shim is small", shim_is_small)
     yield Row("the shim was read beside the toolchain", shim_is_read)
     yield Row("each requires has a keeper", owners_are_listed)
