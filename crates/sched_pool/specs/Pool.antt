@@ -1,6 +1,5 @@
 -- What contracts see of a pool.
-use Rattle.std.specs.Prelude.{◌≡◌, ◌≢◌, ℕ, ◌+◌, ◌<◌, ◌≤◌, List, length, refl}
-use Rattle.std.specs.Coded.{Coded, code_by, coded×, coded_list, coded_ℕ, codes}
+use Rattle.std.specs.Prelude.{◌≡◌, ◌≢◌, ℕ, ◌+◌, ◌<◌, ◌≤◌, List, length}
 use Rattle.sched_law.specs.declared.job.Place.TheVariants.{Running}
 use Rattle.sched_law.specs.declared.job.SchedRun.{SchedRun}
 use Rattle.sched_core.specs.declared.scheduler.Core.{Core}

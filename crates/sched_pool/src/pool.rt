@@ -252,6 +252,7 @@ impl Pool {
         let Some(worker) = first_waiting(&self.workers, self.first) else {
             return None;
         };
+        self.scheduler.shows_a_state();
         let Some(slot) = self.scheduler.next(now) else {
             return None;
         };
