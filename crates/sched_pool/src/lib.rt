@@ -9,6 +9,7 @@ mod workers;
 
 pub use pool::Pool;
 pub use sched_core::{
-    CLASSES, Forecast, MAX_BITMAP_DIM, MAX_SLOTS, NEVER, Place, Region, SchedJob, Scheduler,
+    CLASSES, Forecast, MAX_BITMAP_DIM, MAX_GENERATION, MAX_SLOTS, NEVER, Place, Region, SchedJob,
+    Scheduler,
 };
 pub use workers::{MAX_WORKERS, WorkerState};

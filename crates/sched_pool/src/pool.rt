@@ -17,7 +17,7 @@ ghost use Rattle.sched_pool.specs.Pool.{HasNoneIdle, HasSameCore, HasSameWorkers
 
 use crate::workers::{MAX_WORKERS, WorkerState, first_waiting, put_state, state_at};
 use fixed_vec::{FixedVec, Store};
-use sched_core::{CLASSES, MAX_BITMAP_DIM, MAX_SLOTS, Region, SchedJob, Scheduler};
+use sched_core::{CLASSES, MAX_BITMAP_DIM, MAX_GENERATION, MAX_SLOTS, Region, SchedJob, Scheduler};
 use std::alloc::AllocError;
 use std::marker::Model;
 
@@ -125,12 +125,18 @@ impl Pool {
             → IsTaken self.old.core slot ⊎ IsSpent self.old.core slot) }
         ensures inside { IfSome result (λ slot. slot < slots_of self.new.core) }
         ensures free { IfSome result (λ slot. IsTaken self.old.core slot → ⊥) }
+        ensures unspent { IfSome result (λ slot. job_generation self.old.core slot
+            < MAX_GENERATION) }
         ensures generation { IfSome result (λ slot. job_generation self.new.core slot
             ≡ job_generation self.old.core slot + 1) }
+        ensures generations { IfSome result (λ slot. (u : ℕ) → u ≢ slot
+            → job_generation self.new.core u ≡ job_generation self.old.core u) }
         ensures place { IfSome result (λ slot. job_place self.new.core slot
             ≡ Queued (record { job = job; passed = 0 })) }
         ensures arrival { IfSome result (λ slot. job_arrival self.new.core slot
             ≡ submitted_of self.old.core) }
+        ensures submitted { IfSome result (λ slot. submitted_of self.new.core
+            ≡ submitted_of self.old.core + 1) }
         ensures others { IfSome result (KeepsOthers self.old.core self.new.core) }
         ensures shows { (w : Sched) → ShowsCore w self.old.core
             → IfSome result (λ slot. ShowsCore (submit job w) self.new.core) }
@@ -245,6 +251,7 @@ impl Pool {
             × Decides (at now w) (answer_of self.new.core (Some slot)) v
             × ShowsCore v self.new.core))) }
         ensures same { IfNone result (HasSameWorkers self.old self.new) }
+        ensures idle { HasNoneIdle self.old → HasSameCore self.old self.new }
         ensures none { (w : Sched) → ShowsCore w self.old.core → IfNone result (
             (HasNoneIdle self.old × HasSameCore self.old self.new)
             ⊎ ((v : Sched) × (Decides (at now w) None v × ShowsCore v self.new.core))) }
