@@ -11,8 +11,8 @@ use Rattle.sched_law.proofs.SetLemmas.{absent_runs}
 use Rattle.sched_core.specs.declared.scheduler.Core.{Core}
 use Rattle.sched_core.specs.Shows.{KeepsOthers, ShowsCore, job_place, slots_of}
 use Rattle.sched_core.proofs.JobLemmas.{running_present, slot_place}
-use Rattle.sched_pool.specs.declared.workers.WorkerState.{WorkerState}
-use Rattle.sched_pool.specs.declared.workers.WorkerState.TheVariants.{Away, Waiting, Busy}
+use Rattle.sched_pool.specs.declared.workers.PoolWorker.{PoolWorker}
+use Rattle.sched_pool.specs.declared.workers.PoolWorker.TheVariants.{Away, Waiting, Busy}
 use Rattle.sched_pool.specs.Workers.{does, none_waits_in}
 use Rattle.sched_pool.specs.Pool.{IsPool, IsStaffed, RunsIn}
 
@@ -31,13 +31,13 @@ away_waits : Away ≡ Waiting → ⊥
 away_waits e = cc
 
 -- a worker with one state has no other one
-pub away_has_none : {x : WorkerState} → x ≡ Away → (slot : ℕ) → x ≡ Busy slot → ⊥
+pub away_has_none : {x : PoolWorker} → x ≡ Away → (slot : ℕ) → x ≡ Busy slot → ⊥
 away_has_none is slot has = away_busy (sym is ∙ has)
 
-pub waiting_has_none : {x : WorkerState} → x ≡ Waiting → (slot : ℕ) → x ≡ Busy slot → ⊥
+pub waiting_has_none : {x : PoolWorker} → x ≡ Waiting → (slot : ℕ) → x ≡ Busy slot → ⊥
 waiting_has_none is slot has = waiting_busy (sym is ∙ has)
 
-pub away_waits_not : {x : WorkerState} → x ≡ Away → x ≡ Waiting → ⊥
+pub away_waits_not : {x : PoolWorker} → x ≡ Away → x ≡ Waiting → ⊥
 away_waits_not is waits = away_waits (sym is ∙ waits)
 
 -- ---- at first
@@ -50,7 +50,7 @@ away_first n u = elim (cases_lt u n) [
 ]
 
 -- no job runs at first
-pub first_staffed : (dim patience : ℕ) (core : Core) (workers : List WorkerState) → ShowsCore (initial dim patience) core
+pub first_staffed : (dim patience : ℕ) (core : Core) (workers : List PoolWorker) → ShowsCore (initial dim patience) core
     → ((u : ℕ) → does workers u ≡ Away) → IsStaffed core workers
 first_staffed dim patience core workers k away = record {
   runs = λ u slot has. absurd (away_has_none (away u) slot has);
@@ -64,22 +64,22 @@ first_staffed dim patience core workers k away = record {
 
 -- ---- workers of which one was written
 
-pub rewritten : (core : Core) (old new : List WorkerState) (first : ℕ) → length new ≡ length old
+pub rewritten : (core : Core) (old new : List PoolWorker) (first : ℕ) → length new ≡ length old
     → IsPool (record { core = core; workers = new; first = first })
     → IsPool (record { core = core; workers = refill (length old) old new; first = first })
 rewritten core old new first count is =
-    subst (λ (ws : List WorkerState). IsPool (record { core = core; workers = ws; first = first }))
+    subst (λ (ws : List PoolWorker). IsPool (record { core = core; workers = ws; first = first }))
     (sym (ap (λ k. take k (new ++ drop (length new) old)) (sym count) ∙ take-append_seam new (drop (length new) old))) is
 
 -- no worker waits in two parts
-pub none_joined : (workers : List WorkerState) (mid end : ℕ) → none_waits_in workers 0 mid → none_waits_in workers mid end → none_waits_in workers 0 end
+pub none_joined : (workers : List PoolWorker) (mid end : ℕ) → none_waits_in workers 0 mid → none_waits_in workers mid end → none_waits_in workers 0 end
 none_joined workers mid end lower upper u low high = elim (cases_lt u mid) [
   | inl below ↦ lower u low below
   | inr from ↦ upper u from high
 ]
 
 -- the jobs that run may change in their order only
-pub kept_staffed : (before after : Core) (workers : List WorkerState) → ((s : ℕ) → RunsIn before s → RunsIn after s)
+pub kept_staffed : (before after : Core) (workers : List PoolWorker) → ((s : ℕ) → RunsIn before s → RunsIn after s)
     → ((s : ℕ) → RunsIn after s → RunsIn before s) → IsStaffed before workers → IsStaffed after workers
 kept_staffed before after workers on only is = record {
   runs = λ u slot has. on slot (is.runs u slot has);
@@ -87,7 +87,7 @@ kept_staffed before after workers on only is = record {
   all = λ slot runs. is.all slot (only slot runs);
 }
 
-module _ (old new : List WorkerState) (n : ℕ) (others : (u : ℕ) → u ≢ n → does new u ≡ does old u) where
+module _ (old new : List PoolWorker) (n : ℕ) (others : (u : ℕ) → u ≢ n → does new u ≡ does old u) where
   -- a worker without a job still has none
   pub idle_staffed : (core : Core) → ((slot : ℕ) → does old n ≡ Busy slot → ⊥) → ((slot : ℕ) → does new n ≡ Busy slot → ⊥)
       → IsStaffed core old → IsStaffed core new

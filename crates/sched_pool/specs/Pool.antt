@@ -5,14 +5,14 @@ use Rattle.sched_law.specs.declared.job.SchedRun.{SchedRun}
 use Rattle.sched_core.specs.declared.scheduler.Core.{Core}
 use Rattle.sched_core.specs.Shows.{core_words, job_place, slots_of}
 use Rattle.sched_pool.specs.declared.workers.TheConstants.{MAX_WORKERS}
-use Rattle.sched_pool.specs.declared.workers.WorkerState.{WorkerState}
-use Rattle.sched_pool.specs.declared.workers.WorkerState.TheVariants.{Waiting, Busy}
+use Rattle.sched_pool.specs.declared.workers.PoolWorker.{PoolWorker}
+use Rattle.sched_pool.specs.declared.workers.PoolWorker.TheVariants.{Waiting, Busy}
 use Rattle.sched_pool.specs.Workers.{does, none_waits_in}
 
 -- The scheduler, what each worker does, and a number below which no worker waits.
 pub record PoolData : Type 0 where
   pub core : Core
-  pub workers : List WorkerState
+  pub workers : List PoolWorker
   pub first : ℕ
 
 -- How many workers a pool has.
@@ -20,7 +20,7 @@ abbrev pub workers_of : PoolData → ℕ
 workers_of pool = length pool.workers
 
 -- What a worker does.
-abbrev pub worker_in : PoolData → ℕ → WorkerState
+abbrev pub worker_in : PoolData → ℕ → PoolWorker
 worker_in pool u = does pool.workers u
 
 -- The other workers do the same as before.
@@ -50,7 +50,7 @@ abbrev pub RunsIn : Core → ℕ → Type 0
 RunsIn core slot = (slot < slots_of core) × ((run : SchedRun) × (job_place core slot ≡ Running run))
 
 -- Each job that a worker has runs. Each job that runs has exactly one worker.
-pub record IsStaffed (core : Core) (workers : List WorkerState) : Type 0 where
+pub record IsStaffed (core : Core) (workers : List PoolWorker) : Type 0 where
   pub runs : (u slot : ℕ) → does workers u ≡ Busy slot → RunsIn core slot
   pub apart : (u v slot : ℕ) → does workers u ≡ Busy slot → does workers v ≡ Busy slot → u ≡ v
   pub all : (slot : ℕ) → RunsIn core slot → (u : ℕ) × (does workers u ≡ Busy slot)

@@ -12,10 +12,10 @@ ghost use Rattle.sched_law.specs.Law.{IsSound};
 ghost use Rattle.fixed_vec.specs.Spending.{HasWords, Spends};
 ghost use Rattle.sched_core.specs.Shows.{HasSameJobs, IsSpent, IsTaken, KeepsGenerations, KeepsOthers, KeepsSlots, ShowsCore, dim_of, job_arrival, job_generation, job_place, slots_of, submitted_of};
 ghost use Rattle.sched_core.specs.Answers.{answer_of};
-ghost use Rattle.sched_pool.specs.declared.workers.WorkerState.TheVariants.{Away, Waiting, Busy};
+ghost use Rattle.sched_pool.specs.declared.workers.PoolWorker.TheVariants.{Away, Waiting, Busy};
 ghost use Rattle.sched_pool.specs.Pool.{HasNoneIdle, HasSameCore, HasSameWorkers, IsFirstIdle, IsStaffed, KeepsWorkers, pool_words, worker_in, workers_of};
 
-use crate::workers::{MAX_WORKERS, WorkerState, first_waiting, put_state, state_at};
+use crate::workers::{MAX_WORKERS, PoolWorker, first_waiting, put_state, state_at};
 use fixed_vec::{FixedVec, Store};
 use sched_core::{CLASSES, MAX_BITMAP_DIM, MAX_GENERATION, MAX_SLOTS, Region, SchedJob, Scheduler};
 use std::alloc::AllocError;
@@ -25,7 +25,7 @@ use std::marker::Model;
 #[derive(Drop)]
 pub struct Pool {
     scheduler: Scheduler,
-    workers: FixedVec<WorkerState>,
+    workers: FixedVec<PoolWorker>,
     /// No worker below this number waits.
     first: u32,
 }
@@ -74,7 +74,7 @@ impl Pool {
     {
         let scheduler = Scheduler::new(store, dim, capacity, patience)?;
         let count = workers as usize;
-        let workers = store.filled(WorkerState::Away, count, count)?;
+        let workers = store.filled(PoolWorker::Away, count, count)?;
         Ok(Pool {
             scheduler,
             workers,
@@ -98,7 +98,7 @@ impl Pool {
     }
 
     /// Returns what a worker does.
-    pub fn worker(&self, number: u32) -> WorkerState
+    pub fn worker(&self, number: u32) -> PoolWorker
         requires { number < workers_of self.now }
         ensures { result ≡ worker_in self.now number }
     {
@@ -196,7 +196,7 @@ impl Pool {
         ensures waits { worker_in self.new worker ≡ Waiting }
         ensures others { KeepsWorkers self.old self.new worker }
     {
-        put_state(&mut self.workers, worker, WorkerState::Waiting);
+        put_state(&mut self.workers, worker, PoolWorker::Waiting);
         self.first = self.first.min(worker);
     }
 
@@ -209,7 +209,7 @@ impl Pool {
         ensures away { worker_in self.new worker ≡ Away }
         ensures others { KeepsWorkers self.old self.new worker }
     {
-        put_state(&mut self.workers, worker, WorkerState::Away);
+        put_state(&mut self.workers, worker, PoolWorker::Away);
     }
 
     /// Removes the job that a worker has. Its block is vacant then, and the worker is away.
@@ -229,11 +229,11 @@ impl Pool {
             → ShowsCore w self.old.core
             → ShowsCore (finish (job_arrival self.old.core slot) w) self.new.core }
     {
-        let WorkerState::Busy(slot) = state_at(&self.workers, worker) else {
+        let PoolWorker::Busy(slot) = state_at(&self.workers, worker) else {
             return;
         };
         self.scheduler.finish(slot);
-        put_state(&mut self.workers, worker, WorkerState::Away);
+        put_state(&mut self.workers, worker, PoolWorker::Away);
     }
 
     /// Starts the job that comes next at this time, and gives it to the first worker that waits.
@@ -263,7 +263,7 @@ impl Pool {
         let Some(slot) = self.scheduler.next(now) else {
             return None;
         };
-        put_state(&mut self.workers, worker, WorkerState::Busy(slot));
+        put_state(&mut self.workers, worker, PoolWorker::Busy(slot));
         self.first = worker;
         Some(worker)
     }

@@ -4,8 +4,8 @@ use Rattle.sched_law.proofs.SetLemmas.{none_is_some, same}
 use Rattle.sched_core.specs.Shows.{IsTaken, job_place}
 use Rattle.sched_core.proofs.JobLemmas.{running_present}
 use Rattle.sched_pool.specs.declared.workers.TheConstants.{MAX_WORKERS}
-use Rattle.sched_pool.specs.declared.workers.WorkerState.{WorkerState}
-use Rattle.sched_pool.specs.declared.workers.WorkerState.TheVariants.{Waiting}
+use Rattle.sched_pool.specs.declared.workers.PoolWorker.{PoolWorker}
+use Rattle.sched_pool.specs.declared.workers.PoolWorker.TheVariants.{Waiting}
 use Rattle.sched_pool.specs.Workers.{does, none_waits_in}
 use Rattle.sched_pool.proofs.RunLemmas.{slot_ran, slot_runs_on, slot_waited}
 use Rattle.sched_pool.proofs.PoolLemmas.{kept_staffed, none_below, none_joined, rewritten, started_staffed, waiting_has_none}
@@ -43,9 +43,9 @@ invariant_of-self-2 c =
     let new = c.put_state.new.workers in
     let n = c.in-Some.worker in
     let count : length new ≡ length old = c.put_state.ensures.count ∙ ap length c.deref_mut.ensures.value in
-    let others = λ (u : ℕ) (other : u ≢ n). c.put_state.ensures.others u other ∙ ap (λ (ws : List WorkerState). does ws u) c.deref_mut.ensures.value in
-    let waits : does old n ≡ Waiting = ap (λ (ws : List WorkerState). does ws n) (sym c.deref.ensures.value) ∙ c.in-Some.ensures.waits in
-    let first : none_waits_in old c.self.inside.first n = subst (λ (ws : List WorkerState). none_waits_in ws c.self.inside.first n) c.deref.ensures.value c.in-Some.ensures.first in
+    let others = λ (u : ℕ) (other : u ≢ n). c.put_state.ensures.others u other ∙ ap (λ (ws : List PoolWorker). does ws u) c.deref_mut.ensures.value in
+    let waits : does old n ≡ Waiting = ap (λ (ws : List PoolWorker). does ws n) (sym c.deref.ensures.value) ∙ c.in-Some.ensures.waits in
+    let first : none_waits_in old c.self.inside.first n = subst (λ (ws : List PoolWorker). none_waits_in ws c.self.inside.first n) c.deref.ensures.value c.in-Some.ensures.first in
     let taken = λ (t : ℕ) (some : Some slot ≡ Some t). subst (IsTaken now) (same some) (running_present (job_place now slot) run.0 run.1) in
     rewritten now old new n count (record {
       limit = subst (λ m. m ≤ MAX_WORKERS) (sym count) c.self.invariant.limit;

@@ -1,8 +1,8 @@
 -- The job of the worker is over, and the worker has none. The other workers have their jobs.
 use Rattle.std.proofs.Common.{◌≡◌, ◌≢◌, ℕ, sym, ◌∙◌, ◌≤◌, ap, length, subst, List}
 use Rattle.sched_pool.specs.declared.workers.TheConstants.{MAX_WORKERS}
-use Rattle.sched_pool.specs.declared.workers.WorkerState.{WorkerState}
-use Rattle.sched_pool.specs.declared.workers.WorkerState.TheVariants.{Busy}
+use Rattle.sched_pool.specs.declared.workers.PoolWorker.{PoolWorker}
+use Rattle.sched_pool.specs.declared.workers.PoolWorker.TheVariants.{Busy}
 use Rattle.sched_pool.specs.Workers.{does}
 use Rattle.sched_pool.proofs.PoolLemmas.{away_has_none, away_waits_not, none_more, over_staffed, rewritten}
 use Rattle.sched_pool.proofs.pool.Pool.finish.Goals as goal
@@ -12,8 +12,8 @@ invariant_of-self c =
     let old = c.self.inside.workers.items in
     let new = c.put_state.new.workers in
     let count : length new ≡ length old = c.put_state.ensures.count ∙ ap length c.deref_mut.ensures.value in
-    let others = λ (u : ℕ) (other : u ≢ c.args.worker). c.put_state.ensures.others u other ∙ ap (λ (ws : List WorkerState). does ws u) c.deref_mut.ensures.value in
-    let had : does old c.args.worker ≡ Busy c.in-Busy.slot = ap (λ (ws : List WorkerState). does ws c.args.worker) (sym c.deref.ensures.value) ∙ sym c.in-Busy.ensures in
+    let others = λ (u : ℕ) (other : u ≢ c.args.worker). c.put_state.ensures.others u other ∙ ap (λ (ws : List PoolWorker). does ws u) c.deref_mut.ensures.value in
+    let had : does old c.args.worker ≡ Busy c.in-Busy.slot = ap (λ (ws : List PoolWorker). does ws c.args.worker) (sym c.deref.ensures.value) ∙ sym c.in-Busy.ensures in
     rewritten c.finish.new.self old new c.self.inside.first count (record {
       limit = subst (λ k. k ≤ MAX_WORKERS) (sym count) c.self.invariant.limit;
       staffed = over_staffed old new c.args.worker others c.self.inside.scheduler c.finish.new.self c.in-Busy.slot had (away_has_none c.put_state.ensures.here)

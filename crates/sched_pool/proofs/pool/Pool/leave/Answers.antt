@@ -1,7 +1,7 @@
 -- The worker had no job and has none, and no more workers wait.
 use Rattle.std.proofs.Common.{◌≡◌, ◌≢◌, ℕ, sym, ◌∙◌, ◌≤◌, ap, length, subst, List}
 use Rattle.sched_pool.specs.declared.workers.TheConstants.{MAX_WORKERS}
-use Rattle.sched_pool.specs.declared.workers.WorkerState.{WorkerState}
+use Rattle.sched_pool.specs.declared.workers.PoolWorker.{PoolWorker}
 use Rattle.sched_pool.specs.Workers.{does}
 use Rattle.sched_pool.specs.Pool.{PoolData}
 use Rattle.sched_pool.proofs.PoolLemmas.{away_has_none, away_waits_not, idle_staffed, none_more, rewritten, waiting_has_none}
@@ -12,7 +12,7 @@ invariant_of-self c =
     let old = c.self.inside.workers.items in
     let new = c.put_state.new.workers in
     let count : length new ≡ length old = c.put_state.ensures.count ∙ ap length c.deref_mut.ensures.value in
-    let others = λ (u : ℕ) (other : u ≢ c.args.worker). c.put_state.ensures.others u other ∙ ap (λ (ws : List WorkerState). does ws u) c.deref_mut.ensures.value in
+    let others = λ (u : ℕ) (other : u ≢ c.args.worker). c.put_state.ensures.others u other ∙ ap (λ (ws : List PoolWorker). does ws u) c.deref_mut.ensures.value in
     let waits = ap (λ (x : PoolData). does x.workers c.args.worker) c.self.view_is ∙ c.requires.waits in
     rewritten c.self.inside.scheduler old new c.self.inside.first count (record {
       limit = subst (λ k. k ≤ MAX_WORKERS) (sym count) c.self.invariant.limit;
