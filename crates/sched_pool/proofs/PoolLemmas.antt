@@ -1,10 +1,9 @@
 -- A pool after a worker does something else, and after a job ends or starts.
-use Rattle.std.proofs.Common.{◌≡◌, ◌≢◌, ℕ, ◌<◌, ◌≤◌, ◌⊎◌, inl, inr, List, length, replicate, sym, ◌∙◌, ap, subst, arith}
+use Rattle.std.proofs.Common.{◌≡◌, ◌≢◌, ℕ, ◌<◌, ◌≤◌, ◌⊎◌, inl, inr, List, length, replicate, take, drop, ◌++◌, sym, ◌∙◌, ap, subst, arith}
 use Rattle.std.specs.List.{refill}
 use Rattle.std.proofs.Math.Seq.{take-append_seam}
 use Rattle.std.proofs.lemmas.Bool.{cases_eq, cases_lt}
 use Rattle.std.proofs.lemmas.List.{get_or-replicate, get_or_past, length-replicate}
-use Rattle.std.proofs.Common.{take, drop, ◌++◌}
 use Rattle.sched_law.specs.declared.job.Place.TheVariants.{Absent}
 use Rattle.sched_law.specs.State.{initial}
 use Rattle.sched_law.proofs.SetLemmas.{absent_runs}
@@ -78,7 +77,7 @@ none_joined workers mid end lower upper u low high = elim (cases_lt u mid) [
   | inr from ↦ upper u from high
 ]
 
--- the jobs that run may change in their order only
+-- the same slots have jobs that run
 pub kept_staffed : (before after : Core) (workers : List PoolWorker) → ((s : ℕ) → RunsIn before s → RunsIn after s)
     → ((s : ℕ) → RunsIn after s → RunsIn before s) → IsStaffed before workers → IsStaffed after workers
 kept_staffed before after workers on only is = record {
