@@ -79,6 +79,7 @@ QUOTES = {
     "sched_blocks": ("sched_core/src/start.rt#fn launch",),
     "sched_jobs": ("sched_core/src/choice.rt#fn passing_any",),
     "sched_core": ("cubejobs_plan/src/starting.rt#pub(crate) fn next",),
+    "sched_pool": ("uses/src/turn.rt",),
     "wake_pool": ("wake_calls/src/steps.rt#pub fn rise<",),
     "wake_calls": ("wake_table/src/tests.rt#fn sleeps", "wake_table/src/tests.rt#fn wakes"),
     "wake_table": ("wake_table/src/tests.rt#fn a_sleeper_is_woken_for_a_job",),
