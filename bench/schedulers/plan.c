@@ -10,10 +10,10 @@
  *
  * First it plays WARM jobs and twice ROUNDS rounds of JOBS jobs, and notes all calls. Then it plays the WARM jobs again,
  * and prints `ready` and a sum over their starts. For each line that it reads it makes the calls of one round: in turn
- *   job S P        P is the nanoseconds of all calls for one job: a submit, a finish, and each call for the next start.
- *                  They are of processor time, all others on the clock.
- *   next S P Q R   the medians of single calls that start a job and of those that start none, and the 99th percentile
- *                  of both together
+ *   job S P         P is the nanoseconds of all calls for one job: a submit, a finish, and each call for the next
+ *                   start. They are of processor time, all others on the clock.
+ *   next S P Q R T  the medians of single calls that start a job, of those that start none, and of both together, and
+ *                   the 99th percentile of both together
  * S is a sum over all starts so far, which must be those of the first time.
  *
  * `plan memory DIM JOBS WAITING` opens a scheduler for JOBS jobs, submits WAITING, and prints how many bytes it took. */
@@ -240,8 +240,9 @@ static void time_nexts(const struct call *from, const struct call *end) {
         }
     }
     double scale = (double)(nanoseconds(CLOCK_MONOTONIC) - began) / (double)(ticks() - first);
-    printf("next %" PRIu64 " %.1f %.1f %.1f\n", sum, (double)percentile(&kinds[1], 50) * scale,
-           (double)percentile(&kinds[2], 50) * scale, (double)percentile(&kinds[0], 99) * scale);
+    printf("next %" PRIu64 " %.1f %.1f %.1f %.1f\n", sum, (double)percentile(&kinds[1], 50) * scale,
+           (double)percentile(&kinds[2], 50) * scale, (double)percentile(&kinds[0], 50) * scale,
+           (double)percentile(&kinds[0], 99) * scale);
     for (unsigned i = 0; i < 3; i++) {
         free(kinds[i].all);
     }
