@@ -1,0 +1,8 @@
+use Rattle.sched_team.proofs.TeamLemmas.{good}
+use Rattle.sched_team.proofs.law.deeds_are_safe.Goals as goal
+
+pub returns-clause-safe : goal.returns-clause-safe
+returns-clause-safe c = λ dim patience workers history is. (good dim patience workers history is).safe
+
+pub returns-clause-manned : goal.returns-clause-manned
+returns-clause-manned c = λ dim patience workers history is. (good dim patience workers history is).manned
