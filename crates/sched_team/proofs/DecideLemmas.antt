@@ -1,5 +1,5 @@
 -- What a decision does to the place of each job.
-use Rattle.std.proofs.Common.{◌≡◌, ◌≢◌, ℕ, ◌+◌, ◌^◌, ◌<◌, ◌⊎◌, inl, inr, min, Option, Some, None, refl, sym, ◌∙◌, ap, subst}
+use Rattle.std.proofs.Common.{◌≡◌, ℕ, ◌+◌, ◌^◌, inl, inr, min, Option, Some, refl, sym, ◌∙◌, ap, subst}
 use Rattle.std.proofs.lemmas.Bool.{cases_eq}
 use Rattle.cube_shape.specs.Region.{block}
 use Rattle.sched_law.specs.declared.job.TheConstants.{NEVER}
@@ -11,7 +11,7 @@ use Rattle.sched_law.specs.declared.job.Place.TheVariants.{Absent, Waiting, Runn
 use Rattle.sched_law.specs.State.{Sched, Runs, Waits, end_after, pass, set}
 use Rattle.sched_law.specs.Policy.{Decides, Prepares}
 use Rattle.sched_law.specs.Policy as policy
-use Rattle.sched_law.proofs.SetLemmas.{absent_waits, look, runs_waits, same, set_else, set_here}
+use Rattle.sched_law.proofs.SetLemmas.{absent_waits, runs_waits, set_else, set_here}
 use Rattle.sched_law.proofs.PolicyLemmas.{head_waits}
 use Rattle.sched_law.proofs.SafeLemmas.{prepare_same}
 use Rattle.sched_law.proofs.LawLemmas.{prepared_waits, starts_by}

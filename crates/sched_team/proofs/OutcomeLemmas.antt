@@ -1,5 +1,5 @@
 -- How often each job was started and cancelled, by the place where it is.
-use Rattle.std.proofs.Common.{◌≡◌, ◌≢◌, ℕ, ◌+◌, ◌<◌, ◌≤◌, ◌⊎◌, inl, inr, List, [], ◌∷◌, Option, Some, None, refl, sym, ◌∙◌, ap, subst, arith}
+use Rattle.std.proofs.Common.{◌≡◌, ◌≢◌, ℕ, ◌+◌, ◌<◌, ◌≤◌, ◌⊎◌, inl, inr, List, [], ◌∷◌, Some, None, refl, sym, ◌∙◌, ap, subst, arith}
 use Rattle.std.proofs.lemmas.Bool.{cases_eq, cases_lt}
 use Rattle.ghost_history.proofs.SumLemmas.{is_at-same, is_at-other}
 use Rattle.sched_law.specs.declared.job.SchedWait.{SchedWait}
@@ -9,7 +9,7 @@ use Rattle.sched_law.specs.declared.job.Place.TheVariants.{Absent, Waiting, Runn
 use Rattle.sched_law.specs.State.{Sched, Runs, Waits, at, set}
 use Rattle.sched_law.specs.Law.{IsSafe}
 use Rattle.sched_law.proofs.SetLemmas.{absent_runs, absent_waits, runs_waits, set_else, set_here}
-use Rattle.sched_team.specs.Team.{Deed, Does, IsHistory, May, Team, after, end_of, team_of}
+use Rattle.sched_team.specs.Team.{Deed, IsHistory, May, Team, after, end_of, team_of}
 use Rattle.sched_team.specs.Team.Deed.{submits, cancels, occupies, vacates, asks, leaves, ends, starts, settles, closes}
 use Rattle.sched_team.specs.Team.Does.{has}
 use Rattle.sched_team.specs.Outcome.{IsLeft, WasCancelled, WasRun, cancels_of, is_cancel, is_start, starts_of}

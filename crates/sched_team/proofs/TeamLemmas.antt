@@ -1,11 +1,10 @@
 -- Each deed leads from a safe state in which each running job has a worker to another one.
-use Rattle.std.proofs.Common.{◌≡◌, ◌≢◌, ℕ, ◌<◌, ◌⊎◌, inl, inr, List, [], ◌∷◌, Option, Some, None, refl, sym, ◌∙◌, ap, subst, arith}
+use Rattle.std.proofs.Common.{◌≡◌, ◌≢◌, ℕ, ◌⊎◌, inl, inr, List, [], ◌∷◌, Option, Some, None, refl, sym, ◌∙◌, ap, subst, arith}
 use Rattle.std.proofs.lemmas.Bool.{cases_eq}
-use Rattle.sched_law.specs.declared.job.SchedWait.{SchedWait}
 use Rattle.sched_law.specs.declared.job.SchedRun.{SchedRun}
 use Rattle.sched_law.specs.declared.job.Place.{Place}
 use Rattle.sched_law.specs.declared.job.Place.TheVariants.{Absent, Waiting, Running}
-use Rattle.sched_law.specs.State.{Sched, Runs, Waits, at, cancel, finish, set, submit}
+use Rattle.sched_law.specs.State.{Sched, Runs, at, cancel, finish, set, submit}
 use Rattle.sched_law.specs.Policy.{Decides}
 use Rattle.sched_law.specs.Law.{IsSafe}
 use Rattle.sched_law.proofs.SetLemmas.{absent_runs, look, runs_waits, set_else, set_here}

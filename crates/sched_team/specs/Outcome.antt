@@ -1,11 +1,11 @@
 -- What happened to each job.
-use Rattle.std.specs.Prelude.{◌≡◌, ℕ, ◌+◌, ◌<◌, ◌≤◌, ◌⊎◌, Bool, false, List, cond, ◌==◌}
+use Rattle.std.specs.Prelude.{◌≡◌, ℕ, ◌⊎◌, List, cond, ◌==◌}
 use Rattle.ghost_history.specs.Sums.{total}
 use Rattle.sched_law.specs.declared.job.SchedWait.{SchedWait}
 use Rattle.sched_law.specs.declared.job.SchedRun.{SchedRun}
 use Rattle.sched_law.specs.declared.job.Place.TheVariants.{Absent}
 use Rattle.sched_law.specs.State.{Runs, Waits}
-use Rattle.sched_team.specs.Team.{Deed, Does, Team, team_of}
+use Rattle.sched_team.specs.Team.{Deed, Team}
 use Rattle.sched_team.specs.Team.Deed.{cancels, starts}
 use Rattle.sched_team.specs.Team.Does.{has}
 
