@@ -91,7 +91,7 @@ inside_runs w j run k is = elim (cases_lt j w.next) [
 
 -- ---- each deed
 
-abbrev Known : Team → List Deed → Type 0
+abbrev pub Known : Team → List Deed → Type 0
 Known t history = IsKnown (cancels_of history) (starts_of history) t.sched
 
 set_stays : (place : ℕ → Place) (i : ℕ) (x : Place) (j : ℕ) → j ≢ i → Stays (place j) (set place i x j)
@@ -183,7 +183,7 @@ known_after workers t history (settles now v) g k may =
 known_after workers t history closes g k may =
     known_same t history closes t.sched k (λ j. refl) (λ j. refl) refl (stays_refl t.sched)
 
-known : (dim patience workers : ℕ) (history : List Deed) → IsHistory dim patience workers history → Known (team_of dim patience history) history
+pub known : (dim patience workers : ℕ) (history : List Deed) → IsHistory dim patience workers history → Known (team_of dim patience history) history
 known dim patience workers [] may = record {
   fate = λ j below. absurd (omega (arith, below));
   fresh = λ j from. (refl, refl);

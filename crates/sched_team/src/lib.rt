@@ -6,4 +6,4 @@
 
 mod law;
 
-pub use law::{deeds_are_safe, jobs_have_one_outcome};
+pub use law::{deeds_are_safe, jobs_have_one_outcome, no_job_comes_after_the_close};

@@ -1,4 +1,5 @@
 use Rattle.sched_team.proofs.TeamLemmas.{good}
+use Rattle.sched_team.proofs.CloseLemmas.{within}
 use Rattle.sched_team.proofs.law.deeds_are_safe.Goals as goal
 
 pub returns-clause-safe : goal.returns-clause-safe
@@ -6,3 +7,6 @@ returns-clause-safe c = λ dim patience workers history is. (good dim patience w
 
 pub returns-clause-manned : goal.returns-clause-manned
 returns-clause-manned c = λ dim patience workers history is. (good dim patience workers history is).manned
+
+pub returns-clause-within : goal.returns-clause-within
+returns-clause-within c = λ dim patience workers history u is from. within dim patience workers history is u from
