@@ -4,12 +4,12 @@ ghost use Rattle.std.specs.Prelude.{◌≡◌, ℕ, ◌<◌, ◌≤◌, ◌⊎�
 ghost use Rattle.sched_law.specs.declared.job.Place.TheVariants.{Absent};
 ghost use Rattle.sched_law.specs.Law.{IsSafe};
 ghost use Rattle.sched_team.specs.Team.{Deed, IsHistory, team_of};
+ghost use Rattle.sched_team.specs.Team.Deed.{closes};
 ghost use Rattle.sched_team.specs.Team.Does.{away};
 ghost use Rattle.sched_team.specs.Outcome.{IsLeft, IsManned, WasCancelled, WasRun, cancels_of, starts_of};
 
 /// Says that each history leads to a safe state. Each job that runs has exactly one worker, and
-/// each job that a worker has runs. There
-/// are no more workers than this number.
+/// each job that a worker has runs. Worker numbers are below `workers`: all others are away.
 pub fn deeds_are_safe()
     ensures safe { (dim patience workers : ℕ) (history : List Deed)
         → IsHistory dim patience workers history → IsSafe (team_of dim patience history).sched }
@@ -38,6 +38,8 @@ pub fn jobs_have_one_outcome()
 
 /// Says that no job comes to a closed scheduler, which stays closed.
 pub fn no_job_comes_after_the_close()
+    ensures close { (dim patience : ℕ) (history : List Deed)
+        → (team_of dim patience (closes ∷ history)).closed ≡ true }
     ensures closed { (dim patience workers : ℕ) (deed : Deed) (history : List Deed)
         → IsHistory dim patience workers (deed ∷ history)
         → (team_of dim patience history).closed ≡ true
