@@ -19,10 +19,11 @@ abbrev pub is_start : ℕ → Deed → ℕ
 is_start j (starts now u i v) = cond (i == j) 1 0
 is_start j _ = 0
 
--- How often the job was cancelled, and how often it was started.
+-- How often the job was cancelled.
 abbrev pub cancels_of : List Deed → ℕ → ℕ
 cancels_of history j = total (is_cancel j) history
 
+-- How often the job was started.
 abbrev pub starts_of : List Deed → ℕ → ℕ
 starts_of history j = total (is_start j) history
 

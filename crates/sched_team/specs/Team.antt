@@ -64,8 +64,8 @@ after t (starts now u j v) = record t { sched = v; does = set t.does u (has j) }
 after t (settles now v) = record t { sched = v }
 after t closes = record t { closed = true }
 
--- The deed is allowed in a state, of a team with this number of workers. The first worker that waits
--- gets the job that starts.
+-- The deed is allowed in a state, of a team with this number of workers. The first worker that
+-- waits gets the job that starts.
 abbrev pub May : ℕ → Team → Deed → Type 0
 May workers t (submits job) = (t.closed ≡ false) × IsSound t.sched.dim job
 May workers t (cancels j) = (wait : SchedWait) × Waits t.sched j wait

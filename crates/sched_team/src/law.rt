@@ -36,7 +36,7 @@ pub fn jobs_have_one_outcome()
         × ((team_of dim patience history).sched.place j ≡ Absent) }
 {}
 
-/// Says that no job comes to a closed scheduler, which stays closed.
+/// Says that a closed scheduler gets no job, and stays closed.
 pub fn no_job_comes_after_the_close()
     ensures close { (dim patience : ℕ) (history : List Deed)
         → (team_of dim patience (closes ∷ history)).closed ≡ true }
