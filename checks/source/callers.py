@@ -87,6 +87,7 @@ QUOTES = {
 # A library that nobody calls, and why.
 UNCALLED = {
     "job_events": "the program does not call it yet", "sched_law": "its functions are laws, which proofs cite",
+    "sched_team": "its functions are laws, which proofs cite",
     "ghost_history": "it has no code that runs", "ghost_log": "its calls do nothing at run time"}
 OPENING = re.compile(r"\A(//.*\n)+\n?")
 BLOCK = re.compile(r"((?<=```rust\n)|(?<=```antt\n)|(?<=```c\n)).*?(?=```\n)", re.DOTALL)

@@ -1,0 +1,4 @@
+pub mod DecideLemmas
+pub mod TeamLemmas
+pub mod OutcomeLemmas
+pub mod CloseLemmas

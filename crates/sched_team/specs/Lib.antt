@@ -1,0 +1,3 @@
+pub mod Team
+pub mod Outcome
+pub use Rattle.sched_law.specs.Law.{IsSafe}
