@@ -160,7 +160,8 @@ pub(crate) fn make_fork(
 
 /// Writes a fork's new link to its right, where an item was appended. Returns the link to the fork.
 pub(crate) fn put_more(nodes: &mut [QueueNode], place: u32, right: u32, slot: u32) -> u32
-    requires { (before : Tree) × ((after : Tree) × HasMore nodes.old place right slot before after) }
+    requires { (before : Tree) × ((after : Tree)
+        × HasMore nodes.old place right slot before after) }
     ensures others { KeepsItems nodes.old nodes.new (place ∷ []) }
     ensures tree { (before after : Tree) → HasMore nodes.old place right slot before after
         → IsAt nodes.new result (branch before after) }
