@@ -581,7 +581,7 @@ impl Plan {
         let estimate = [0, dice.below(20), dice.below(200), u64::MAX - dice.below(3)][dice.place(4)];
         let payload = dice.next();
         let one = plan_ffi::Request { payload, estimate, processors, job_class };
-        let other = plans::PlanRequest { payload, estimate, processors, job_class };
+        let other = plans::JobRequest { payload, estimate, processors, job_class };
         let one = plan_ffi::submit(&mut self.one, one);
         let ticket = same_job("submit", one, plans::cubejobs_plan_submit(&mut self.other, other));
         self.tickets.push(ticket);

@@ -29,7 +29,7 @@ CRATES = (
     "release_version", "cube_shape", "fit_tree", "cubejobs_fit", "collectives", "rank_steps", "cubejobs_rounds", "bitmap_tree",
     "bitmap_occupancy", "cubejobs_regions", "ghost_log", "wake_pool", "wake_calls", "job_lanes", "kept_places", "region_shop",
     "shop_owner", "cubejobs_dispatch", "sched_law", "block_trees", "wait_queue", "sched_blocks", "sched_jobs", "sched_core",
-    "cubejobs_plan")
+    "sched_request", "cubejobs_plan")
 # The crates of the tree of status words, and the collectives as a whole. Only the check `steps` erases them, without the
 # pure machine, the text and the flags of a word.
 TREE = ("status_word", "cube_core", "tree_steps", "cube_tree", "collectives")

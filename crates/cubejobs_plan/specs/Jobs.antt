@@ -1,5 +1,5 @@
 -- Which job a call is about, and what it does to the scheduler.
-use Rattle.std.specs.Prelude.{◌≡◌, ℕ, ◌+◌, ◌^◌, ◌<◌, ◌≤◌, ◌⊎◌, Some, None}
+use Rattle.std.specs.Prelude.{◌≡◌, ℕ, ◌+◌, ◌<◌, ◌⊎◌, Some, None}
 use Rattle.sched_law.specs.declared.job.TheConstants.{NEVER}
 use Rattle.sched_law.specs.declared.job.Place.TheVariants.{Absent, Waiting, Running}
 use Rattle.sched_law.specs.declared.job.SchedJob.{SchedJob}
@@ -8,11 +8,11 @@ use Rattle.sched_law.specs.declared.job.SchedRun.{SchedRun}
 use Rattle.sched_law.specs.State.{Sched, at, cancel, finish, submit}
 use Rattle.sched_law.specs.Law.{IsSound}
 use Rattle.sched_law.specs.Policy.{Decides}
-use Rattle.sched_jobs.specs.declared.lines.TheConstants.{CLASSES}
 use Rattle.sched_core.specs.declared.scheduler.Core.{Core}
 use Rattle.sched_core.specs.Shows.{IsSpent, IsTaken, KeepsGenerations, KeepsOthers, KeepsSlots, ShowsCore, dim_of, job_arrival, job_generation, job_place, job_ticket, slots_of, submitted_of}
+use Rattle.sched_request.specs.declared.request.JobRequest.{JobRequest}
+use Rattle.sched_request.specs.Request.{IsAskable, IsAsked}
 use Rattle.cubejobs_plan.specs.declared.answer.PlanJob.{PlanJob}
-use Rattle.cubejobs_plan.specs.declared.request.PlanRequest.{PlanRequest}
 use Rattle.cubejobs_plan.specs.Answers.{IsAnswer}
 
 -- ---- tickets
@@ -39,19 +39,6 @@ HasRunningWith ticket core =
 
 -- ---- submit
 
--- A machine of this dimension can have a job as it is asked for.
-pub record IsAskable (n : ℕ) (request : PlanRequest) : Type 0 where
-  pub some : 0 < request.processors
-  pub fits : request.processors ≤ 2 ^ n
-  pub class : request.job_class < CLASSES
-
--- The job is the one that is asked for.
-pub record IsAsked (request : PlanRequest) (job : SchedJob) : Type 0 where
-  pub payload : job.payload ≡ request.payload
-  pub processors : job.processors ≡ request.processors
-  pub class : job.class ≡ request.job_class
-  pub estimate : job.estimate ≡ request.estimate
-
 -- There is no room for a job: each slot has one, or has had as many as it may have. Or as many jobs
 -- were submitted as can be numbered.
 abbrev pub IsFull : Core → Type 0
@@ -60,11 +47,11 @@ IsFull core =
     ⊎ ((slot : ℕ) → slot < slots_of core → IsTaken core slot ⊎ IsSpent core slot)
 
 -- The job can be had, and there is no room for it.
-abbrev pub IsRefused : PlanRequest → Core → Type 0
+abbrev pub IsRefused : JobRequest → Core → Type 0
 IsRefused request core = IsAskable (dim_of core) request × IsFull core
 
 -- The job that was asked for waits in a slot that had none, and the answer is its.
-pub record IsSubmitted (request : PlanRequest) (answer : PlanJob) (old new : Core) : Type 0 where
+pub record IsSubmitted (request : JobRequest) (answer : PlanJob) (old new : Core) : Type 0 where
   pub slot : ℕ
   pub job : SchedJob
   pub asked : IsAsked request job

@@ -3,18 +3,19 @@ ghost use Rattle.std.specs.Prelude.{◌≡◌, ◌≢◌, ◌⊎◌, None};
 ghost use Rattle.sched_core.specs.Shows.{dim_of};
 ghost use Rattle.cubejobs_plan.specs.Answers.{SaysNothing};
 ghost use Rattle.cubejobs_plan.specs.Handle.{OnCore, OnCores, core_of};
-ghost use Rattle.cubejobs_plan.specs.Jobs.{IsAskable, IsFull, IsRefused, IsSubmitted};
+ghost use Rattle.sched_request.specs.Request.{IsAskable};
+ghost use Rattle.cubejobs_plan.specs.Jobs.{IsFull, IsRefused, IsSubmitted};
 
 use crate::answer::PlanJob;
 use crate::answers::refused;
 use crate::codes::{DONE, FULL, NOT_OPEN, OUT_OF_RANGE};
 use crate::handle::Handle;
-use crate::request::PlanRequest;
 use crate::submitting::submit;
+use sched_request::JobRequest;
 
 /// Submits a job, which waits from now on.
 #[unsafe(no_mangle)]
-pub extern "C" fn cubejobs_plan_submit(plan: &mut Handle, request: PlanRequest) -> PlanJob
+pub extern "C" fn cubejobs_plan_submit(plan: &mut Handle, request: JobRequest) -> PlanJob
     ensures not_open { core_of plan.old ≡ None → result.code ≡ NOT_OPEN }
     ensures out_of_range { OnCore (λ core. IsAskable (dim_of core) request → ⊥) (core_of plan.old)
         → result.code ≡ OUT_OF_RANGE }

@@ -1,62 +1,19 @@
 //! How a job is submitted.
 
-ghost use Rattle.std.specs.Prelude.{◌≡◌, ◌≢◌, ℕ, ◌^◌, ◌<◌, ◌≤◌, ◌⊎◌, ◌↔◌, IsTrue};
-ghost use Rattle.sched_law.specs.Law.{IsSound};
+ghost use Rattle.std.specs.Prelude.{◌≡◌, ◌≢◌, ◌⊎◌};
 ghost use Rattle.sched_core.specs.Shows.{dim_of};
 ghost use Rattle.cubejobs_plan.specs.Answers.{SaysNothing};
-ghost use Rattle.cubejobs_plan.specs.Jobs.{IsAskable, IsAsked, IsFull, IsRefused, IsSubmitted};
+ghost use Rattle.sched_request.specs.Request.{IsAskable};
+ghost use Rattle.cubejobs_plan.specs.Jobs.{IsFull, IsRefused, IsSubmitted};
 
 use crate::answer::PlanJob;
 use crate::answers::{answer_at_last, refused};
 use crate::codes::{DONE, FULL, OUT_OF_RANGE};
-use crate::request::PlanRequest;
-use cube_shape::MAX_BITMAP_DIM;
-use sched_core::{CLASSES, NEVER, SchedJob, Scheduler};
-
-// Returns the least dimension of a block with as many processors.
-fn least_dim(count: u32) -> u32
-    requires { 0 < count }
-    ensures enough { count ≤ 2 ^ result }
-    ensures least { (k : ℕ) → count ≤ 2 ^ k → result ≤ k }
-{
-    u32::BITS - (count - 1).leading_zeros()
-}
-
-// Returns whether a machine of dimension `n` can have the job.
-fn is_askable(n: u32, request: PlanRequest) -> bool
-    requires { n ≤ MAX_BITMAP_DIM }
-    ensures { IsTrue result ↔ IsAskable n request }
-{
-    if request.processors == 0 {
-        return false;
-    }
-    if request.processors > 1 << n {
-        return false;
-    }
-    if request.job_class >= CLASSES as u32 {
-        return false;
-    }
-    true
-}
-
-// Makes the job that is asked for.
-fn job_of(n: u32, request: PlanRequest) -> SchedJob
-    requires limit { n ≤ MAX_BITMAP_DIM }
-    requires askable { IsAskable n request }
-    ensures asked { IsAsked request result }
-    ensures sound { IsSound n result }
-{
-    SchedJob {
-        payload: request.payload,
-        processors: request.processors,
-        dim: least_dim(request.processors) as u8,
-        class: request.job_class as u8,
-        estimate: request.estimate,
-    }
-}
+use sched_core::{NEVER, Scheduler};
+use sched_request::{JobRequest, is_askable, job_of};
 
 /// Submits a job.
-pub(crate) fn submit(scheduler: &mut Scheduler, request: PlanRequest) -> PlanJob
+pub(crate) fn submit(scheduler: &mut Scheduler, request: JobRequest) -> PlanJob
     ensures out_of_range { (IsAskable (dim_of scheduler.old) request → ⊥)
         → result.code ≡ OUT_OF_RANGE }
     ensures tried { IsAskable (dim_of scheduler.old) request

@@ -10,7 +10,7 @@ pub use crate::source::cubejobs_plan::codes::{
 };
 pub use crate::source::cubejobs_plan::states::{RESERVED, RUNS, WAITS};
 pub use crate::source::cubejobs_plan::{
-    Handle, Options, PlanCounts as Counts, PlanJob as Job, PlanRequest as Request, DONE,
+    Handle, JobRequest as Request, Options, PlanCounts as Counts, PlanJob as Job, DONE,
 };
 pub use crate::source::sched_core::{CLASSES, NEVER};
 

@@ -60,4 +60,6 @@ pub mod sched_jobs;
 #[cfg(feature = "plan")]
 pub mod sched_law;
 #[cfg(feature = "plan")]
+pub mod sched_request;
+#[cfg(feature = "plan")]
 pub mod wait_queue;

@@ -5,8 +5,8 @@ use crate::source::cubejobs_plan::answer::PlanJob;
 use crate::source::cubejobs_plan::answers::refused;
 use crate::source::cubejobs_plan::codes::{DONE, FULL, NOT_OPEN, OUT_OF_RANGE};
 use crate::source::cubejobs_plan::handle::Handle;
-use crate::source::cubejobs_plan::request::PlanRequest;
 use crate::source::cubejobs_plan::submitting::submit;
+use crate::source::sched_request::JobRequest;
 
 /// Submits a job, which waits from now on.
 ///
@@ -20,7 +20,7 @@ use crate::source::cubejobs_plan::submitting::submit;
 /// - ensures submitted: `result.code ≡ DONE → OnCores (IsSubmitted request result) (core_of plan.old) (core_of plan.new)`
 /// - ensures nothing: `result.code ≢ DONE → SaysNothing result`
 /// - ensures unchanged: `result.code ≢ DONE → plan.new ≡ plan.old`
-pub fn cubejobs_plan_submit(plan: &mut Handle, request: PlanRequest) -> PlanJob {
+pub fn cubejobs_plan_submit(plan: &mut Handle, request: JobRequest) -> PlanJob {
     if !plan.is_open() {
         return refused(NOT_OPEN);
     }

@@ -2,8 +2,8 @@
 use Rattle.std.proofs.Common.{◌≡◌, ◌-◌, arith}
 use Rattle.std.specs.Int.Count.{count_leading_zeros}
 use Rattle.std.proofs.lemmas.Nat.{leading_length}
-use Rattle.cubejobs_plan.proofs.DimLemmas.{digits_enough, digits_least}
-use Rattle.cubejobs_plan.proofs.submitting.least_dim.Goals as goal
+use Rattle.sched_request.proofs.DimLemmas.{digits_enough, digits_least}
+use Rattle.sched_request.proofs.request.least_dim.Goals as goal
 
 pub returns-clause-enough : goal.returns-clause-enough
 returns-clause-enough c =

@@ -1,0 +1,2 @@
+pub mod Request
+pub use Rattle.sched_law.specs.Law.{IsSound}
