@@ -1,0 +1,3 @@
+pub mod FollowLemmas
+pub mod ShowLemmas
+pub mod ServeLemmas
