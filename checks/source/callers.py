@@ -79,7 +79,9 @@ QUOTES = {
     "sched_blocks": ("sched_core/src/start.rt#fn launch",),
     "sched_jobs": ("sched_core/src/choice.rt#fn passing_any",),
     "sched_core": ("cubejobs_plan/src/starting.rt#pub(crate) fn next",),
-    "sched_pool": ("uses/src/turn.rt",),
+    "sched_board": ("sched_threads/src/desk.rt#pub fn next",),
+    "sched_pool": ("sched_board/src/board.rt#fn start_one",),
+    "sched_request": ("cubejobs_plan/src/submitting.rt",),
     "wake_pool": ("wake_calls/src/steps.rt#pub fn rise<",),
     "wake_calls": ("wake_table/src/tests.rt#fn sleeps", "wake_table/src/tests.rt#fn wakes"),
     "wake_table": ("wake_table/src/tests.rt#fn a_sleeper_is_woken_for_a_job",),
@@ -87,7 +89,7 @@ QUOTES = {
 # A library that nobody calls, and why.
 UNCALLED = {
     "job_events": "the program does not call it yet", "sched_law": "its functions are laws, which proofs cite",
-    "sched_team": "its functions are laws, which proofs cite",
+    "sched_team": "its functions are laws, which proofs cite", "sched_threads": "no library stands on it yet",
     "ghost_history": "it has no code that runs", "ghost_log": "its calls do nothing at run time"}
 OPENING = re.compile(r"\A(//.*\n)+\n?")
 BLOCK = re.compile(r"((?<=```rust\n)|(?<=```antt\n)|(?<=```c\n)).*?(?=```\n)", re.DOTALL)

@@ -1,0 +1,11 @@
+pub mod Desk
+pub mod Turns
+pub mod View
+pub mod Rule
+pub mod Step
+pub mod Handle
+pub mod Ends
+pub mod Calls
+pub mod Looks
+pub use Rattle.sched_pool.specs.Pool.{worker_in, workers_of}
+pub use Rattle.sched_board.specs.JobBoard.{IsFresh}
