@@ -33,7 +33,8 @@ from checks.lib.toolchain import AFTER_GATE, FOR_ANY
 FIT, PLAN, DISPATCH, ROUNDS, REGIONS = archive.LIBRARIES
 OF_REGIONS = ("cube_shape", "region_bits", "bitmap_tree", "bitmap_occupancy", "hidden_box")
 OF_ROUNDS = ("collectives", "cube_shape", "rank_steps")
-OF_PLAN = ("cube_shape", "fit_tree", "block_trees", "wait_queue", "sched_blocks", "sched_jobs", "sched_core", "hidden_box")
+OF_PLAN = ("cube_shape", "fit_tree", "block_trees", "wait_queue", "sched_blocks", "sched_jobs", "sched_core", "sched_request",
+           "hidden_box")
 OF_DISPATCH = ("bitmap_tree", "hidden_box", "job_lanes", "kept_places", "region_shop", "shop_owner")
 BELOW = {FIT: ("cube_shape", "fit_tree", "region_bits"), PLAN: OF_PLAN, DISPATCH: OF_DISPATCH, REGIONS: OF_REGIONS,
          ROUNDS: OF_ROUNDS}
