@@ -9,8 +9,8 @@ use Rattle.sched_board.specs.declared.board.JobBoard.{JobBoard}
 use Rattle.sched_board.specs.declared.serving.WorkerStage.{WorkerStage}
 use Rattle.sched_board.specs.declared.woken.TheConstants.{MOST_WOKEN}
 use Rattle.sched_board.specs.declared.woken.Woken.{Woken}
-use Rattle.sched_board.specs.JobBoard.{IsServed, Serves, Tells}
-use Rattle.sched_board.specs.Served.{HasStopped, TellsOthers}
+use Rattle.sched_board.specs.JobBoard.{IsServed, Serves, NamesWoken}
+use Rattle.sched_board.specs.Served.{HasStopped, NamesOthers}
 use Rattle.sched_board.specs.Woken.{AreApart, Has}
 
 away_waiting : Away ≡ Waiting → ⊥
@@ -58,21 +58,21 @@ module _ (y z : JobBoard) (n slot : ℕ) (waits : worker_in y.pool n ≡ Waiting
 
   -- ---- named
 
-  pub tells_one : (x : JobBoard) (old new : Woken) → Serves None x y → Tells x y old → Has new n
+  pub names_one : (x : JobBoard) (old new : Woken) → Serves None x y → NamesWoken x y old → Has new n
       → ((u : ℕ) → Has old u → Has new u) → ((u : ℕ) → Has new u → Has old u ⊎ (u ≡ n)) → (AreApart old → (Has old n → ⊥) → AreApart new)
-      → new.count ≤ MOST_WOKEN → Tells x z new
-  tells_one x old new serves tells added kept no_more apart limit = record {
+      → new.count ≤ MOST_WOKEN → NamesWoken x z new
+  names_one x old new serves names added kept no_more apart limit = record {
     all = λ u s was is. elim (cases_eq u n) [
       | inl here ↦ subst (Has new) (sym here) added
-      | inr far ↦ kept u (tells.all u s was (sym (others u far) ∙ is))
+      | inr far ↦ kept u (names.all u s was (sym (others u far) ∙ is))
     ];
     only = λ u named. elim (no_more u named) [
       | inl before ↦
-          let was = tells.only u before in
+          let was = names.only u before in
           (was.0, ((was.1).0, others u (λ here. waits_not_busy (ap (worker_in y.pool) here ∙ waits) (was.1).1) ∙ (was.1).1))
       | inr here ↦ (waited u here, (slot, ap (worker_in z.pool) here ∙ busy))
     ];
-    apart = apart tells.apart (λ named. waits_not_busy waits ((tells.only n named).1).1);
+    apart = apart names.apart (λ named. waits_not_busy waits ((names.only n named).1).1);
     limit = limit;
   }
     where
@@ -82,31 +82,31 @@ module _ (y z : JobBoard) (n slot : ℕ) (waits : worker_in y.pool n ≡ Waiting
         | inr (was, _) ↦ was
       ]
 
-pub tells_same : (x y z : JobBoard) (woken : Woken) → HasSameWorkers y.pool z.pool → Tells x y woken → Tells x z woken
-tells_same x y z woken same tells = record {
-  all = λ u s was is. tells.all u s was (sym (ap (λ (ws : List PoolWorker). does ws u) same) ∙ is);
-  only = λ u named. let was = tells.only u named in (was.0, ((was.1).0, ap (λ (ws : List PoolWorker). does ws u) same ∙ (was.1).1));
-  apart = tells.apart;
-  limit = tells.limit;
+pub names_same : (x y z : JobBoard) (woken : Woken) → HasSameWorkers y.pool z.pool → NamesWoken x y woken → NamesWoken x z woken
+names_same x y z woken same names = record {
+  all = λ u s was is. names.all u s was (sym (ap (λ (ws : List PoolWorker). does ws u) same) ∙ is);
+  only = λ u named. let was = names.only u named in (was.0, ((was.1).0, ap (λ (ws : List PoolWorker). does ws u) same ∙ (was.1).1));
+  apart = names.apart;
+  limit = names.limit;
 }
 
 -- before that, the workers did the same
-pub tells_after : (x y z : JobBoard) (woken : Woken) → HasSameWorkers x.pool y.pool → Tells y z woken → Tells x z woken
-tells_after x y z woken same tells = record {
-  all = λ u s was is. tells.all u s (ap (λ (ws : List PoolWorker). does ws u) same ∙ was) is;
-  only = λ u named. let got = tells.only u named in (sym (ap (λ (ws : List PoolWorker). does ws u) same) ∙ got.0, got.1);
-  apart = tells.apart;
-  limit = tells.limit;
+pub names_after : (x y z : JobBoard) (woken : Woken) → HasSameWorkers x.pool y.pool → NamesWoken y z woken → NamesWoken x z woken
+names_after x y z woken same names = record {
+  all = λ u s was is. names.all u s (ap (λ (ws : List PoolWorker). does ws u) same ∙ was) is;
+  only = λ u named. let got = names.only u named in (sym (ap (λ (ws : List PoolWorker). does ws u) same) ∙ got.0, got.1);
+  apart = names.apart;
+  limit = names.limit;
 }
 
 -- before that, the other workers did the same
-pub tells_others : (me : ℕ) (x y z : JobBoard) (woken : Woken) → ((u : ℕ) → u ≢ me → worker_in y.pool u ≡ worker_in x.pool u)
-    → Tells y z woken → TellsOthers me x z woken
-tells_others me x y z woken others tells = record {
-  all = λ u s far was is. tells.all u s (others u far ∙ was) is;
-  only = λ u far named. let got = tells.only u named in (sym (others u far) ∙ got.0, got.1);
-  apart = tells.apart;
-  limit = tells.limit;
+pub names_others : (me : ℕ) (x y z : JobBoard) (woken : Woken) → ((u : ℕ) → u ≢ me → worker_in y.pool u ≡ worker_in x.pool u)
+    → NamesWoken y z woken → NamesOthers me x z woken
+names_others me x y z woken others names = record {
+  all = λ u s far was is. names.all u s (others u far ∙ was) is;
+  only = λ u far named. let got = names.only u named in (sym (others u far) ∙ got.0, got.1);
+  apart = names.apart;
+  limit = names.limit;
 }
 
 -- a worker that has stopped gets no job

@@ -125,7 +125,7 @@ Serves me x y =
     (u : ℕ) → (me ≡ Some u → ⊥) → IsServed (worker_in x.pool u) (worker_in y.pool u)
 
 -- The workers that waited and have a job now are those that are named, each once.
-pub record Tells (x y : JobBoard) (woken : Woken) : Type 0 where
+pub record NamesWoken (x y : JobBoard) (woken : Woken) : Type 0 where
   pub all : (u slot : ℕ) → worker_in x.pool u ≡ Waiting → worker_in y.pool u ≡ Busy slot
       → Has woken u
   pub only : (u : ℕ) → Has woken u

@@ -71,7 +71,7 @@ IsStart core slot start =
     × (start.base ≡ run.block.base) × (start.processors ≡ run.job.processors)
 
 -- The other workers that waited and have a job now are those that are named, each once.
-pub record TellsOthers (me : ℕ) (x y : JobBoard) (woken : Woken) : Type 0 where
+pub record NamesOthers (me : ℕ) (x y : JobBoard) (woken : Woken) : Type 0 where
   pub all : (u slot : ℕ) → u ≢ me → worker_in x.pool u ≡ Waiting
       → worker_in y.pool u ≡ Busy slot → Has woken u
   pub only : (u : ℕ) → u ≢ me → Has woken u

@@ -11,7 +11,7 @@ ghost use Rattle.sched_core.specs.Shows.{KeepsGenerations, KeepsOthers, KeepsSlo
 ghost use Rattle.sched_pool.specs.declared.workers.PoolWorker.TheVariants.{Away, Waiting, Busy};
 ghost use Rattle.sched_pool.specs.Pool.{HasSameWorkers, KeepsWorkers, pool_words, worker_in, workers_of};
 ghost use Rattle.sched_team.specs.Team.Deed.{asks, cancels, closes, ends, leaves, occupies, submits, vacates};
-ghost use Rattle.sched_board.specs.JobBoard.{DecidesAt, HasReason, IsAtRest, IsClosed, IsFresh, IsInUse, IsNotOut, IsUnchanged, KeepsPhase, Leads, Serves, Tells, phase_after};
+ghost use Rattle.sched_board.specs.JobBoard.{DecidesAt, HasReason, IsAtRest, IsClosed, IsFresh, IsInUse, IsNotOut, IsUnchanged, KeepsPhase, Leads, Serves, NamesWoken, phase_after};
 ghost use Rattle.sched_board.specs.declared.board.BoardPhase.TheVariants.{Stopped};
 ghost use Rattle.sched_board.specs.declared.woken.TheConstants.{MOST_WOKEN};
 
@@ -221,7 +221,7 @@ impl JobBoard {
         ensures decides { DecidesAt now self.old self.new }
         ensures stopped { self.old.phase ≡ Stopped → self.new ≡ self.old }
         ensures serves { Serves None self.old self.new }
-        ensures woken { Tells self.old self.new result.0 }
+        ensures woken { NamesWoken self.old self.new result.0 }
         ensures limit { result.0.count ≤ MOST_WOKEN }
         ensures more { IsTrue result.1 → result.0.count ≡ MOST_WOKEN }
         ensures rest { IsFalse result.1 → IsAtRest self.new }

@@ -6,7 +6,7 @@ ghost use Rattle.sched_pool.specs.Pool.{HasSameWorkers, workers_of};
 ghost use Rattle.sched_team.specs.Team.Deed.{closes, occupies, vacates};
 ghost use Rattle.sched_board.specs.declared.board.BoardPhase.TheVariants.{Stopped};
 ghost use Rattle.sched_board.specs.declared.woken.TheConstants.{MOST_WOKEN};
-ghost use Rattle.sched_board.specs.JobBoard.{FollowsAt, IsAtRest, IsClosed, IsUnchanged, KeepsPhase, Leads, Serves, Tells, phase_after};
+ghost use Rattle.sched_board.specs.JobBoard.{FollowsAt, IsAtRest, IsClosed, IsUnchanged, KeepsPhase, Leads, Serves, NamesWoken, phase_after};
 ghost use Rattle.sched_board.specs.Served.{HasNoneWaiting, IsCancelled, IsNextWaiting, IsNotCancelled, IsNotPutBack, IsNotTakenOut, IsOver, IsRefusal, IsSubmitted, IsTakenBack, block_at};
 
 use crate::blocks::is_block;
@@ -83,7 +83,7 @@ impl JobBoard {
         ensures follows { FollowsAt now self.old [] self.new }
         ensures stopped { self.old.phase ≡ Stopped → self.new ≡ self.old }
         ensures serves { Serves None self.old self.new }
-        ensures woken { Tells self.old self.new result.woken }
+        ensures woken { NamesWoken self.old self.new result.woken }
         ensures more { IsTrue result.more → result.woken.count ≡ MOST_WOKEN }
         ensures rest { IsFalse result.more → IsAtRest self.new }
         ensures over { IsTrue result.over → IsOver self.new × IsAtRest self.new }
@@ -104,7 +104,7 @@ impl JobBoard {
         ensures accepted { IfOk result (λ answer.
             IsSubmitted now request answer.0 self.old self.new) }
         ensures serves { Serves None self.old self.new }
-        ensures woken { IfOk result (λ answer. Tells self.old self.new answer.1.woken) }
+        ensures woken { IfOk result (λ answer. NamesWoken self.old self.new answer.1.woken) }
         ensures more { IfOk result (λ answer. IsTrue answer.1.more
             → answer.1.woken.count ≡ MOST_WOKEN) }
         ensures rest { IfOk result (λ answer. IsFalse answer.1.more → IsAtRest self.new) }
@@ -137,7 +137,7 @@ impl JobBoard {
         ensures cancelled { IfOk result (λ answer.
             IsCancelled now ticket answer.0 self.old self.new) }
         ensures serves { Serves None self.old self.new }
-        ensures woken { IfOk result (λ answer. Tells self.old self.new answer.1.woken) }
+        ensures woken { IfOk result (λ answer. NamesWoken self.old self.new answer.1.woken) }
         ensures more { IfOk result (λ answer. IsTrue answer.1.more
             → answer.1.woken.count ≡ MOST_WOKEN) }
         ensures rest { IfOk result (λ answer. IsFalse answer.1.more → IsAtRest self.new) }
@@ -167,7 +167,7 @@ impl JobBoard {
         ensures stopped { IfOk result (λ effect. self.old.phase ≡ Stopped
             → Leads self.old (occupies (block_at base dim) ∷ []) self.new) }
         ensures serves { Serves None self.old self.new }
-        ensures woken { IfOk result (λ effect. Tells self.old self.new effect.woken) }
+        ensures woken { IfOk result (λ effect. NamesWoken self.old self.new effect.woken) }
         ensures more { IfOk result (λ effect. IsTrue effect.more
             → effect.woken.count ≡ MOST_WOKEN) }
         ensures rest { IfOk result (λ effect. IsFalse effect.more → IsAtRest self.new) }
@@ -197,7 +197,7 @@ impl JobBoard {
         ensures stopped { IfOk result (λ effect. self.old.phase ≡ Stopped
             → Leads self.old (vacates (block_at base dim) ∷ []) self.new) }
         ensures serves { Serves None self.old self.new }
-        ensures woken { IfOk result (λ effect. Tells self.old self.new effect.woken) }
+        ensures woken { IfOk result (λ effect. NamesWoken self.old self.new effect.woken) }
         ensures more { IfOk result (λ effect. IsTrue effect.more
             → effect.woken.count ≡ MOST_WOKEN) }
         ensures rest { IfOk result (λ effect. IsFalse effect.more → IsAtRest self.new) }
@@ -230,7 +230,7 @@ impl JobBoard {
         ensures closed { IsClosed self.new }
         ensures phase { IfSome result (λ effect. self.new.phase ≡ phase_after do_start) }
         ensures serves { Serves None self.old self.new }
-        ensures woken { IfSome result (λ effect. Tells self.old self.new effect.woken) }
+        ensures woken { IfSome result (λ effect. NamesWoken self.old self.new effect.woken) }
         ensures more { IfSome result (λ effect. IsTrue effect.more
             → effect.woken.count ≡ MOST_WOKEN) }
         ensures rest { IfSome result (λ effect. IsFalse effect.more → IsAtRest self.new) }

@@ -7,7 +7,7 @@ ghost use Rattle.sched_board.specs.declared.board.BoardPhase.TheVariants.{Stoppe
 ghost use Rattle.sched_board.specs.declared.woken.TheConstants.{MOST_WOKEN};
 ghost use Rattle.sched_board.specs.declared.serving.WorkerStage.TheVariants.{Asked};
 ghost use Rattle.sched_board.specs.JobBoard.{FollowsAt, IsAtRest, KeepsPhase, Leads, Serves};
-ghost use Rattle.sched_board.specs.Served.{FitsStage, HasStopped, IsOver, IsStart, TellsOthers, deeds_of, deeds_to_stop};
+ghost use Rattle.sched_board.specs.Served.{FitsStage, HasStopped, IsOver, IsStart, NamesOthers, deeds_of, deeds_to_stop};
 
 use crate::board::{BoardPhase, JobBoard};
 use crate::start::ThreadStart;
@@ -91,7 +91,7 @@ impl JobBoard {
             × IsStart self.new.pool.core slot start)) }
         ensures none { IfNone result.start ((slot : ℕ)
             → worker_in self.new.pool worker ≡ Busy slot → ⊥) }
-        ensures woken { TellsOthers worker self.old self.new result.woken }
+        ensures woken { NamesOthers worker self.old self.new result.woken }
         ensures more { IsTrue result.more → result.woken.count ≡ MOST_WOKEN }
         ensures rest { IsFalse result.more → IsAtRest self.new }
         ensures over { IsTrue result.over → IsOver self.new × IsAtRest self.new }
@@ -151,7 +151,7 @@ impl JobBoard {
             × (worker_in self.new.pool worker ≡ Busy slot)
             × IsStart self.new.pool.core slot start)) }
         ensures away { IfNone result.start (worker_in self.new.pool worker ≡ Away) }
-        ensures woken { TellsOthers worker self.old self.new result.woken }
+        ensures woken { NamesOthers worker self.old self.new result.woken }
         ensures more { IsTrue result.more → result.woken.count ≡ MOST_WOKEN }
         ensures rest { IsFalse result.more → IsAtRest self.new }
         ensures over { IsTrue result.over → IsOver self.new × IsAtRest self.new }

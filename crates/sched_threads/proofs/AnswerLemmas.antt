@@ -13,7 +13,7 @@ use Rattle.sched_board.specs.declared.calls.Effect.{Effect}
 use Rattle.sched_board.specs.declared.calls.RestJob.{RestJob}
 use Rattle.sched_board.specs.declared.calls.SubmitError.{SubmitError}
 use Rattle.sched_board.specs.declared.woken.TheConstants.{MOST_WOKEN}
-use Rattle.sched_board.specs.JobBoard.{Follows, FollowsAt, IsAtRest, IsClosed, IsUnchanged, Leads, Tells, phase_after}
+use Rattle.sched_board.specs.JobBoard.{Follows, FollowsAt, IsAtRest, IsClosed, IsUnchanged, Leads, NamesWoken, phase_after}
 use Rattle.sched_board.specs.Served.{HasNoneWaiting, IsNotPutBack, IsNotTakenOut, IsOver, IsTakenBack, block_at}
 use Rattle.sched_board.proofs.FollowLemmas.{at_follows, leads_none}
 use Rattle.sched_board.proofs.ShowLemmas.{shows_same}
@@ -35,7 +35,7 @@ close_answer now do_start None x y follows stopped phase effects opened why same
 
 -- The effect of a call, field by field.
 pub effect_of : (answer : Option Effect) (x y : JobBoard)
-    → IfSome answer (λ effect. Tells x y effect.woken)
+    → IfSome answer (λ effect. NamesWoken x y effect.woken)
     → IfSome answer (λ effect. IsTrue effect.more → effect.woken.count ≡ MOST_WOKEN)
     → IfSome answer (λ effect. IsFalse effect.more → IsAtRest y)
     → IfSome answer (λ effect. IsTrue effect.over → IsOver y × IsAtRest y)
@@ -77,7 +77,7 @@ put_back_answer now base dim (Err it) x y follows stopped effects why same = (wh
 
 -- The effect of such a call, field by field.
 pub block_effect : (answer : Result Effect BlockError) (x y : JobBoard)
-    → IfOk answer (λ effect. Tells x y effect.woken)
+    → IfOk answer (λ effect. NamesWoken x y effect.woken)
     → IfOk answer (λ effect. IsTrue effect.more → effect.woken.count ≡ MOST_WOKEN)
     → IfOk answer (λ effect. IsFalse effect.more → IsAtRest y)
     → IfOk answer (λ effect. IsTrue effect.over → IsOver y × IsAtRest y)

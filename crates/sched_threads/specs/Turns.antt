@@ -16,8 +16,8 @@ use Rattle.sched_board.specs.declared.serving.Served.{Served}
 use Rattle.sched_board.specs.declared.serving.WorkerStage.{WorkerStage}
 use Rattle.sched_board.specs.declared.serving.WorkerStage.TheVariants.{Asked}
 use Rattle.sched_request.specs.declared.request.JobRequest.{JobRequest}
-use Rattle.sched_board.specs.JobBoard.{FollowsAt, IsAtRest, IsClosed, IsUnchanged, Leads, Serves, Tells, phase_after}
-use Rattle.sched_board.specs.Served.{HasNoneWaiting, IsCancelled, IsNotCancelled, IsNotPutBack, IsNotTakenOut, IsOver, IsRefusal, IsStart, IsSubmitted, IsTakenBack, TellsOthers, block_at, deeds_of, deeds_to_stop}
+use Rattle.sched_board.specs.JobBoard.{FollowsAt, IsAtRest, IsClosed, IsUnchanged, Leads, Serves, NamesWoken, phase_after}
+use Rattle.sched_board.specs.Served.{HasNoneWaiting, IsCancelled, IsNotCancelled, IsNotPutBack, IsNotTakenOut, IsOver, IsRefusal, IsStart, IsSubmitted, IsTakenBack, NamesOthers, block_at, deeds_of, deeds_to_stop}
 
 -- Workers other than one, if there is one, do the same as before, or got a job for which they
 -- waited. There are as many as before.
@@ -32,7 +32,7 @@ pub record IsServing (now : ℕ) (stage : WorkerStage) (u : ℕ) (served : Serve
   pub start : IfSome served.start (λ start. (slot : ℕ) × ((worker_in y.pool u ≡ Busy slot)
       × IsStart y.pool.core slot start))
   pub none : IfNone served.start (worker_in y.pool u ≡ Waiting)
-  pub woken : TellsOthers u x y served.woken
+  pub woken : NamesOthers u x y served.woken
   pub more : IsTrue served.more → served.woken.count ≡ MOST_WOKEN
   pub rest : IsFalse served.more → IsAtRest y
   pub over : IsTrue served.over → IsOver y × IsAtRest y
@@ -46,7 +46,7 @@ pub record IsStopping (now : ℕ) (stage : WorkerStage) (u : ℕ) (served : Serv
   pub start : IfSome served.start (λ start. (slot : ℕ) × ((worker_in x.pool u ≡ Busy slot)
       × (stage ≡ Asked) × (worker_in y.pool u ≡ Busy slot) × IsStart y.pool.core slot start))
   pub none : IfNone served.start (worker_in y.pool u ≡ Away)
-  pub woken : TellsOthers u x y served.woken
+  pub woken : NamesOthers u x y served.woken
   pub more : IsTrue served.more → served.woken.count ≡ MOST_WOKEN
   pub rest : IsFalse served.more → IsAtRest y
   pub over : IsTrue served.over → IsOver y × IsAtRest y
@@ -55,7 +55,7 @@ pub record IsStopping (now : ℕ) (stage : WorkerStage) (u : ℕ) (served : Serv
 -- The workers that got a job are named. If no more may start, none may, and the answer says whether
 -- all is over.
 pub record HasEffect (effect : Effect) (x y : JobBoard) : Type 0 where
-  pub woken : Tells x y effect.woken
+  pub woken : NamesWoken x y effect.woken
   pub more : IsTrue effect.more → effect.woken.count ≡ MOST_WOKEN
   pub rest : IsFalse effect.more → IsAtRest y
   pub over : IsTrue effect.over → IsOver y × IsAtRest y

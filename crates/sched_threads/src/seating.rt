@@ -74,8 +74,8 @@ impl Desk {
     /// no longer. Starts jobs for workers that wait. Changes nothing if the worker got a job that
     /// the thread has not seen.
     pub fn rise(&mut self, worker: u32, now: u64) -> Result<Served, WrongState>
-        ensures stopped { IfOk result (λ served. IsStopping now (stage_of (chair_of self.old worker))
-            worker served self.old.board self.new.board) }
+        ensures stopped { IfOk result (λ served. IsStopping now (stage_of
+            (chair_of self.old worker)) worker served self.old.board self.new.board) }
         ensures moves { IfOk result (λ served. Moves (Some worker) self.old.board
             self.new.board) }
         ensures no_job { IfOk result (λ served. served.start ≡ None) }

@@ -8,7 +8,7 @@ use Rattle.sched_pool.specs.declared.workers.PoolWorker.{PoolWorker}
 use Rattle.sched_team.specs.Team.Deed.{submits}
 use Rattle.sched_board.specs.declared.board.JobBoard.{JobBoard}
 use Rattle.sched_board.proofs.FollowLemmas.{at_then}
-use Rattle.sched_board.proofs.ServeLemmas.{tells_after}
+use Rattle.sched_board.proofs.ServeLemmas.{names_after}
 use Rattle.sched_board.proofs.board.JobBoard.accept.Goals as goal
 
 -- a job of as many before it has the same ticket
@@ -38,4 +38,4 @@ returns-in-Ok-clause-accepted c =
 
 pub returns-in-Ok-clause-woken : goal.returns-in-Ok-clause-woken
 returns-in-Ok-clause-woken c =
-    tells_after c.args.self.now c.submit.new.self c.settle.new.self c.settle.result.woken c.in-Ok.ensures.workers c.settle.ensures.woken
+    names_after c.args.self.now c.submit.new.self c.settle.new.self c.settle.result.woken c.in-Ok.ensures.workers c.settle.ensures.woken

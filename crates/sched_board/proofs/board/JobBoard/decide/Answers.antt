@@ -2,7 +2,7 @@
 use Rattle.std.proofs.Common.{None, ◌∙◌, arith}
 use Rattle.sched_board.specs.declared.board.JobBoard.{JobBoard}
 use Rattle.sched_board.proofs.FollowLemmas.{decides_then}
-use Rattle.sched_board.proofs.ServeLemmas.{serves_one, serves_then, tells_one, tells_same}
+use Rattle.sched_board.proofs.ServeLemmas.{serves_one, serves_then, names_one, names_same}
 use Rattle.sched_board.proofs.board.JobBoard.decide.Goals as goal
 
 pub returns-in_default-clause-decides : goal.returns-in_default-clause-decides
@@ -12,7 +12,7 @@ returns-in_default-clause-decides c =
 
 pub returns-in_default-clause-woken : goal.returns-in_default-clause-woken
 returns-in_default-clause-woken c =
-    tells_same c.args.self.now c.loop-turn.self c.start_one.new.self c.loop-turn.woken c.in_default.ensures.same c.loop-turn.invariant.tells
+    names_same c.args.self.now c.loop-turn.self c.start_one.new.self c.loop-turn.woken c.in_default.ensures.same c.loop-turn.invariant.names
 
 pub loop-turn-preserved : goal.loop-turn-preserved
 loop-turn-preserved c =
@@ -26,7 +26,7 @@ loop-turn-preserved c =
     record {
       decides = decides_then c.args.now x y z was.count was.decides c.in-Some.ensures.decides;
       serves = serves_then None x y z was.serves (serves_one y z n slot c.in-Some.ensures.waited busy c.in-Some.ensures.others None);
-      tells = tells_one y z n slot c.in-Some.ensures.waited busy c.in-Some.ensures.others x c.loop-turn.woken c.add-woken.result was.serves was.tells
+      names = names_one y z n slot c.in-Some.ensures.waited busy c.in-Some.ensures.others x c.loop-turn.woken c.add-woken.result was.serves was.names
           c.add-woken.ensures.added c.add-woken.ensures.others c.add-woken.ensures.no_more c.add-woken.ensures.apart (omega (arith, c.add-woken.ensures.count));
       count = c.in-Some.ensures.count ∙ was.count;
       slots = c.in-Some.ensures.slots ∙ was.slots;

@@ -2,7 +2,7 @@
 use Rattle.std.proofs.Common.{◌≡◌, ◌≢◌, None}
 use Rattle.sched_core.specs.Shows.{KeepsGenerations, KeepsSlots, slots_of}
 use Rattle.sched_pool.specs.Pool.{workers_of}
-use Rattle.sched_board.specs.JobBoard.{DecidesAt, KeepsPhase, Serves, Tells}
+use Rattle.sched_board.specs.JobBoard.{DecidesAt, KeepsPhase, Serves, NamesWoken}
 use Rattle.sched_board.specs.declared.board.BoardPhase.TheVariants.{Stopped}
 use Rattle.sched_board.proofs.board.JobBoard.decide.Given as goal
 
@@ -10,7 +10,7 @@ abbrev pub invariant-loop-turn : goal.invariant-loop-turn
 invariant-loop-turn l = record {
   decides : DecidesAt l.now l.initial.self l.self;
   serves : Serves None l.initial.self l.self;
-  tells : Tells l.initial.self l.self l.woken;
+  names : NamesWoken l.initial.self l.self l.woken;
   count : workers_of l.self.pool ≡ workers_of l.initial.self.pool;
   slots : slots_of l.self.pool.core ≡ slots_of l.initial.self.pool.core;
   generations : KeepsGenerations l.initial.self.pool.core l.self.pool.core;

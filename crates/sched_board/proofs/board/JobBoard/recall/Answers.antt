@@ -11,7 +11,7 @@ use Rattle.sched_pool.specs.declared.workers.PoolWorker.{PoolWorker}
 use Rattle.sched_team.specs.Team.Deed.{cancels}
 use Rattle.sched_board.specs.declared.board.JobBoard.{JobBoard}
 use Rattle.sched_board.proofs.FollowLemmas.{at_then, leads_stopped}
-use Rattle.sched_board.proofs.ServeLemmas.{tells_after}
+use Rattle.sched_board.proofs.ServeLemmas.{names_after}
 use Rattle.sched_board.proofs.board.JobBoard.recall.Goals as goal
 
 -- a job that is not over, and does not wait, runs
@@ -66,4 +66,4 @@ returns-clause-cancelled c =
 
 pub returns-clause-woken : goal.returns-clause-woken
 returns-clause-woken c =
-    tells_after c.args.self.now c.cancel.new.self c.settle.new.self c.settle.result.woken c.cancel.ensures.workers c.settle.ensures.woken
+    names_after c.args.self.now c.cancel.new.self c.settle.new.self c.settle.result.woken c.cancel.ensures.workers c.settle.ensures.woken

@@ -1,7 +1,7 @@
 -- The decisions come after what the worker asked. Before them the other workers did as at first.
 use Rattle.std.proofs.Common.{[]}
 use Rattle.sched_board.proofs.FollowLemmas.{at_then, decides_at, leads_stopped}
-use Rattle.sched_board.proofs.ServeLemmas.{tells_others}
+use Rattle.sched_board.proofs.ServeLemmas.{names_others}
 use Rattle.sched_board.specs.Served.{deeds_of}
 use Rattle.sched_board.proofs.board.JobBoard.serve.Goals as goal
 
@@ -12,7 +12,7 @@ returns-then-not-more-clause-follows c =
 
 pub returns-then-not-more-clause-woken : goal.returns-then-not-more-clause-woken
 returns-then-not-more-clause-woken c =
-    tells_others c.args.worker c.args.self.now c.begin.new.self c.decide-more.new.self c.decide-more.result.0 c.begin.ensures.others
+    names_others c.args.worker c.args.self.now c.begin.new.self c.decide-more.new.self c.decide-more.result.0 c.begin.ensures.others
     c.decide-more.ensures.woken
 
 pub returns-else-not-more-clause-follows : goal.returns-else-not-more-clause-follows
@@ -22,7 +22,7 @@ returns-else-not-more-clause-follows c =
 
 pub returns-else-not-more-clause-woken : goal.returns-else-not-more-clause-woken
 returns-else-not-more-clause-woken c =
-    tells_others c.args.worker c.args.self.now c.begin.new.self c.decide-more.new.self c.decide-more.result.0 c.begin.ensures.others
+    names_others c.args.worker c.args.self.now c.begin.new.self c.decide-more.new.self c.decide-more.result.0 c.begin.ensures.others
     c.decide-more.ensures.woken
 
 pub returns-then-not-more-clause-stopped : goal.returns-then-not-more-clause-stopped

@@ -6,7 +6,7 @@ use Rattle.sched_board.specs.declared.board.JobBoard.{JobBoard}
 use Rattle.sched_board.specs.declared.board.BoardPhase.TheVariants.{Stopped}
 use Rattle.sched_board.specs.JobBoard.{Leads, phase_after}
 use Rattle.sched_board.proofs.FollowLemmas.{at_then}
-use Rattle.sched_board.proofs.ServeLemmas.{tells_after}
+use Rattle.sched_board.proofs.ServeLemmas.{names_after}
 use Rattle.sched_board.proofs.board.JobBoard.shut.Goals as goal
 
 pub returns-clause-follows : goal.returns-clause-follows
@@ -18,7 +18,7 @@ returns-clause-follows c =
 pub returns-clause-woken : goal.returns-clause-woken
 returns-clause-woken c =
     let same = ap (λ (pool : PoolData). pool.workers) c.close.ensures.pool in
-    tells_after c.args.self.now c.close.new.self c.settle.new.self c.settle.result.woken same c.settle.ensures.woken
+    names_after c.args.self.now c.close.new.self c.settle.new.self c.settle.result.woken same c.settle.ensures.woken
 
 pub returns-clause-stopped : goal.returns-clause-stopped
 returns-clause-stopped c = λ no.

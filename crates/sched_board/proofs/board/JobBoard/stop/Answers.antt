@@ -9,7 +9,7 @@ use Rattle.sched_board.specs.declared.serving.WorkerStage.TheVariants.{Asked}
 use Rattle.sched_board.specs.declared.start.ThreadStart.{ThreadStart}
 use Rattle.sched_board.specs.Served.{HasStopped, IsStart, deeds_to_stop}
 use Rattle.sched_board.proofs.FollowLemmas.{at_then, decides_at, leads_stopped}
-use Rattle.sched_board.proofs.ServeLemmas.{none_some, still_stopped, tells_others}
+use Rattle.sched_board.proofs.ServeLemmas.{none_some, still_stopped, names_others}
 use Rattle.sched_board.proofs.board.JobBoard.stop.Goals as goal
 
 busy_away : {slot : ℕ} → Busy slot ≡ Away → ⊥
@@ -52,7 +52,7 @@ returns-then-not-more-clause-away c =
 
 pub returns-then-not-more-clause-woken : goal.returns-then-not-more-clause-woken
 returns-then-not-more-clause-woken c =
-    tells_others c.args.worker c.args.self.now c.end.new.self c.decide-more.new.self c.decide-more.result.0 c.end.ensures.others
+    names_others c.args.worker c.args.self.now c.end.new.self c.decide-more.new.self c.decide-more.result.0 c.end.ensures.others
     c.decide-more.ensures.woken
 
 pub returns-else-not-more-clause-follows : goal.returns-else-not-more-clause-follows
@@ -81,7 +81,7 @@ returns-else-not-more-clause-away c =
 
 pub returns-else-not-more-clause-woken : goal.returns-else-not-more-clause-woken
 returns-else-not-more-clause-woken c =
-    tells_others c.args.worker c.args.self.now c.end.new.self c.decide-more.new.self c.decide-more.result.0 c.end.ensures.others
+    names_others c.args.worker c.args.self.now c.end.new.self c.decide-more.new.self c.decide-more.result.0 c.end.ensures.others
     c.decide-more.ensures.woken
 
 pub returns-then-not-more-clause-stopped : goal.returns-then-not-more-clause-stopped

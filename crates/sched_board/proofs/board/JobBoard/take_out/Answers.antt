@@ -7,7 +7,7 @@ use Rattle.sched_team.specs.Team.Deed.{occupies}
 use Rattle.sched_board.specs.declared.board.JobBoard.{JobBoard}
 use Rattle.sched_board.specs.Served.{block_at}
 use Rattle.sched_board.proofs.FollowLemmas.{at_then, leads_stopped}
-use Rattle.sched_board.proofs.ServeLemmas.{tells_after}
+use Rattle.sched_board.proofs.ServeLemmas.{names_after}
 use Rattle.sched_board.proofs.board.JobBoard.take_out.Goals as goal
 
 pub returns-then-not-occupy-clause-why : goal.returns-then-not-occupy-clause-why
@@ -26,7 +26,7 @@ returns-clause-follows c =
 
 pub returns-clause-woken : goal.returns-clause-woken
 returns-clause-woken c =
-    tells_after c.args.self.now c.occupy.new.self c.settle.new.self c.settle.result.woken c.occupy.ensures.workers c.settle.ensures.woken
+    names_after c.args.self.now c.occupy.new.self c.settle.new.self c.settle.result.woken c.occupy.ensures.workers c.settle.ensures.woken
 
 pub returns-clause-stopped : goal.returns-clause-stopped
 returns-clause-stopped c =
