@@ -83,20 +83,6 @@ deals_worker plan id v s keep me = let k = keep.kept in record {
   };
 }
 
-pub deals_none : (plan : Plan) (id : ℕ) (v : View) → Splits (Keeps plan) id v v spent_view
-deals_none plan id v s keep me = let k = keep.kept in record {
-  kept = record {
-    histories = k.histories;
-    legal = k.legal;
-    some_room = k.some_room;
-    long = k.long;
-    words = k.words;
-    lanes = splits lanes_in lane_number s.views k.lanes id v me v spent_view (λ all. (all, tt)) (λ n. omega arith);
-    workers = splits workers_in worker_number s.views k.workers id v me v spent_view (λ all. (all, tt)) (λ n. omega arith);
-    closers = splits closers_in closer_number s.views k.closers id v me v spent_view (λ all. (all, tt)) (λ n. omega arith);
-  };
-}
-
 -- ---- two views are joined
 
 pub joins_views : (plan : Plan) (id : ℕ) (v : View) (other : ℕ) (w : View)

@@ -31,10 +31,10 @@ use Rattle.job_lanes.specs.declared.sizes.Plan.{Plan}
 use Rattle.job_lanes.specs.declared.view.View.{View}
 use Rattle.job_lanes.specs.declared.view.Both.{Both}
 use Rattle.job_lanes.specs.Layout.{lane_words, lane_start, all_words}
-use Rattle.job_lanes.specs.Inner.View.{first_view, without_lane, lane_alone, without_worker, worker_alone, joined, spent_view, nothing_of}
+use Rattle.job_lanes.specs.Inner.View.{first_view, without_lane, lane_alone, without_worker, worker_alone, joined, spent_view}
 use Rattle.job_lanes.specs.Inner.Rule.{reads, Keeps}
 use Rattle.job_lanes.specs.Inner.Step.{Sat}
-use Rattle.job_lanes.specs.Inner.Pool.{BothSat, BothSt, known_in, known_sat, known_state, threads_in, thread_number, both, goes, thread_count, thread_at, jobs_in, KeepsBoth, first_both, without_lane_both, lane_alone_both, nothing_of_both, without_worker_both, worker_alone_both, joined_both, spent_both, MayPut}
+use Rattle.job_lanes.specs.Inner.Pool.{BothSat, BothSt, known_in, known_sat, known_state, threads_in, thread_number, both, goes, thread_count, thread_at, jobs_in, KeepsBoth, first_both, without_lane_both, lane_alone_both, without_worker_both, worker_alone_both, joined_both, spent_both, MayPut}
 use Rattle.job_lanes.specs.Inner.PoolLaw.{map_set, map_get, map_two, own_thread}
 use Rattle.job_lanes.proofs.LayoutLemmas.{lane-inside, lanes-apart}
 
@@ -343,10 +343,6 @@ module _ (plan : Plan) where
   deals_worker_both id v lanes = cuts id v (without_worker_both v) (worker_alone_both v) lanes
       (λ P all. let two = parts P v.sleepers v.others all in let cut = cut-all P v.sleepers two.0 in (all_append P (rest_of v.sleepers) v.others cut.0 two.1, all_append P (first_of v.sleepers) [] cut.1 tt))
       (λ f. omega (arith, total-append f v.sleepers v.others, total-append f (rest_of v.sleepers) v.others, total-append f (first_of v.sleepers) [], cut-total f v.sleepers))
-
-  pub deals_none_both : (id : ℕ) (v : Both) → Splits (Keeps plan) id v.known v.known (nothing_of v.known)
-      → Splits (KeepsBoth plan) id v v (nothing_of_both v)
-  deals_none_both id v lanes = cuts id v v (nothing_of_both v) lanes (λ P all. (all, tt)) (λ f. omega arith)
 
   pub joins_both : (id : ℕ) (v : Both) (other : ℕ) (w : Both) → Joins (Keeps plan) id v.known other w.known (joined v.known w.known) spent_view
       → Joins (KeepsBoth plan) id v other w (joined_both v w) spent_both

@@ -3,7 +3,6 @@
 use crate::sizes::Plan;
 use crate::sleeping::Sleeper;
 use crate::view::Both;
-use atomic_table::Badge;
 use std::marker::Model;
 
 pub type Seat = atomic_table::Seat<(), Both>;
@@ -92,21 +91,6 @@ impl Model for Worker {
     } };
 
     ghost invariant = { λ w. w.sleeper.phase ≡ Idle };
-}
-
-/// Names lanes, without a right to any call.
-#[derive(Drop)]
-pub struct LanesName {
-    pub(crate) badge: Badge<Both>,
-    pub(crate) plan: Plan,
-}
-
-impl Model for LanesName {
-    ghost use Rattle.job_lanes.specs.Lanes.{LanesId};
-
-    ghost Value = { LanesId };
-
-    ghost view = { λ n. record { table = n.badge.table_id; plan = n.plan } };
 }
 
 /// The right to close all lanes. There is one.

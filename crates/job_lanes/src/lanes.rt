@@ -9,9 +9,9 @@ ghost use Rattle.job_lanes.specs.Record.{fresh_lane, fresh_worker};
 ghost use Rattle.job_lanes.specs.Run.{WholeLanes};
 
 use crate::ending::drain;
-use crate::handles::{Lane, LanesEnd, LanesName, Members, Worker};
+use crate::handles::{Lane, LanesEnd, Members, Worker};
 use crate::record::LaneJob;
-use crate::rule::{DealLane, DealNone, DealWorker, LanesRule};
+use crate::rule::{DealLane, DealWorker, LanesRule};
 use crate::sizes::{CELLS, MAX_CAPACITY, MAX_LANES, MAX_WORKERS, Plan, Sizes};
 use crate::sleeping::Sleeper;
 use crate::view::Both;
@@ -211,7 +211,8 @@ impl Lanes {
         ensures unchanged { OnErr result (members.new ≡ members.old) }
     {
         let tails = vec![in alloc; 0_u64; self.plan.sizes.lanes as usize]?;
-        Ok(self.seat_worker(members, tails))
+        let sleeper = self.seat_sleeper(members, tails);
+        Ok(Worker { sleeper })
     }
 
     /// Returns the sizes of the lanes.
@@ -222,37 +223,8 @@ impl Lanes {
         sizes
     }
 
-    /// Returns the name of these lanes. It makes one atomic step.
-    pub fn name(&self, lane: &mut Lane) -> LanesName
-        requires { lane.old.id ≡ self.now }
-        ensures name { result ≡ self.now }
-        ensures lane { lane.new ≡ lane.old }
-    {
-        let seat = self.table.shared.split_seat::<DealNone>(&mut lane.seat);
-        LanesName {
-            badge: seat.into_badge(),
-            plan: self.plan,
-        }
-    }
-
-    /// Deals out the first worker that is not dealt out yet, with the memory for a word for each
-    /// lane, which are 0.
-    pub fn seat_worker(&self, members: &mut Members, tails: Vec<u64>) -> Worker
-        requires members { members.old.id ≡ self.now }
-        requires more { members.old.dealt_workers < self.now.plan.sizes.workers }
-        requires tails { tails.items ≡ replicate self.now.plan.sizes.lanes 0 }
-        ensures members { members.new.id ≡ self.now }
-        ensures id { result.id ≡ self.now }
-        ensures fresh { result.known ≡ fresh_worker self.now.plan members.old.dealt_workers }
-        ensures no_deeds { result.deeds ≡ [] }
-        ensures workers { members.new.dealt_workers ≡ members.old.dealt_workers + 1 }
-        ensures lanes { members.new.dealt_lanes ≡ members.old.dealt_lanes }
-    {
-        let sleeper = self.seat_sleeper(members, tails);
-        Worker { sleeper }
-    }
-
-    // The same as one that may sleep.
+    // Deals out the first worker that is not dealt out yet, as one that may sleep. `tails` has a 0
+    // for each lane.
     fn seat_sleeper(&self, members: &mut Members, tails: Vec<u64>) -> Sleeper
         requires members { members.old.id ≡ self.now }
         requires more { members.old.dealt_workers < self.now.plan.sizes.workers }

@@ -1,5 +1,5 @@
 // The rule of the table, and the names of its steps.
-ghost use Rattle.job_lanes.specs.Inner.Pool.{KeepsBoth, first_both, threads_in, goes, noted, stills, accepts_both, looks_on_both, finds_both, as_it_is_both, nothing_of_both, without_lane_both, lane_alone_both, without_worker_both, worker_alone_both, joined_both, spent_both};
+ghost use Rattle.job_lanes.specs.Inner.Pool.{KeepsBoth, first_both, threads_in, goes, noted, stills, accepts_both, looks_on_both, finds_both, without_lane_both, lane_alone_both, without_worker_both, worker_alone_both, joined_both, spent_both};
 ghost use Rattle.job_lanes.specs.Inner.PoolLaw.{pool_law as lanes_pool_law};
 ghost use Rattle.job_lanes.specs.Inner.Step.{reads_count_at, looks_at, puts_payload_at, puts_dim_at, closes_at, reads_head_at, reads_tail_at, reads_payload_at, reads_dim_at, takes_at};
 
@@ -137,15 +137,6 @@ impl Split<Both> for DealWorker {
     ghost left = { without_worker_both };
 
     ghost right = { worker_alone_both };
-}
-
-// A seat without a record is split off.
-pub struct DealNone;
-
-impl Split<Both> for DealNone {
-    ghost left = { as_it_is_both };
-
-    ghost right = { nothing_of_both };
 }
 
 // The records of two seats are joined.

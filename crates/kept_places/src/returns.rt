@@ -62,8 +62,8 @@ pub fn leave<X: Fits + Drop>(place: &ReturnPlace<X>, content: X) -> Result<(), X
     Ok(())
 }
 
-/// Takes the content of a place, if it has one.
-pub fn collect<X: Fits>(place: &ReturnPlace<X>) -> Option<X>
+// Takes the content of a place, if it has one.
+fn collect<X: Fits>(place: &ReturnPlace<X>) -> Option<X>
     ensures fits { IfSome result (X.fits place.now) }
 {
     if place.load() != PRESENT {

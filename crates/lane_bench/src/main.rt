@@ -8,9 +8,9 @@
 //! their lane. Then it prints how many jobs the lanes accepted, and how many were left. On standard
 //! error it prints the nanoseconds from the first submit to the last take.
 //!
-//! `lane_bench memory` opens lanes, shares one, and opens a dispatcher (`region_shop`), so that
-//! memory can be refused from outside. After each call it prints its name and what came back. At
-//! the end it prints how many calls had memory.
+//! `lane_bench memory` opens lanes, uses and ends them, so that memory can be refused from outside.
+//! After a call that takes memory it prints its name and what came back. At the end it prints how
+//! many calls had memory.
 #![tactic(auto)]
 
 mod check;

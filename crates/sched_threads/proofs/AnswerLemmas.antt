@@ -1,5 +1,5 @@
 -- What calls on a board answer, and the deeds of each answer.
-use Rattle.std.proofs.Common.{◌≡◌, ◌≢◌, ℕ, Bool, Option, Some, None, Result, Ok, Err, IfOk, IfErr, IfSome, IfNone, IsTrue, IsFalse, List, [], ◌∷◌, sym, ap, subst}
+use Rattle.std.proofs.Common.{◌≡◌, ℕ, Bool, Option, Some, None, Result, Ok, Err, IfOk, IfErr, IfSome, IfNone, IsTrue, IsFalse, List, [], ◌∷◌, sym, ap, subst}
 use Rattle.sched_team.specs.Team.{Deed}
 use Rattle.sched_team.specs.Team.Deed.{cancels, closes, occupies, submits, vacates}
 use Rattle.sched_request.specs.declared.request.JobRequest.{JobRequest}
@@ -13,10 +13,11 @@ use Rattle.sched_board.specs.declared.calls.Effect.{Effect}
 use Rattle.sched_board.specs.declared.calls.RestJob.{RestJob}
 use Rattle.sched_board.specs.declared.calls.SubmitError.{SubmitError}
 use Rattle.sched_board.specs.declared.woken.TheConstants.{MOST_WOKEN}
-use Rattle.sched_board.specs.JobBoard.{Follows, FollowsAt, IsAtRest, IsClosed, IsUnchanged, Leads, NamesWoken, phase_after}
+use Rattle.sched_board.specs.JobBoard.{FollowsAt, IsAtRest, IsClosed, IsUnchanged, Leads, NamesWoken, phase_after}
 use Rattle.sched_board.specs.Served.{HasNoneWaiting, IsNotPutBack, IsNotTakenOut, IsOver, IsTakenBack, block_at}
-use Rattle.sched_board.proofs.FollowLemmas.{at_follows, leads_none}
+use Rattle.sched_board.proofs.FollowLemmas.{leads_none}
 use Rattle.sched_board.proofs.ShowLemmas.{shows_same}
+use Rattle.sched_threads.specs.Rule.{HasDeeds}
 use Rattle.sched_threads.specs.Turns.{HasEffect, IsCancelAnswer, IsCloseAnswer, IsPutBackAnswer, IsRestAnswer, IsSettled, IsSubmitAnswer, IsTakeOutAnswer}
 
 -- ---- answers by cases
@@ -89,62 +90,60 @@ block_effect (Err why) x y woken more rest over told = tt
 -- ---- the deeds of each answer
 
 -- just these deeds
-follows_leads : (x y : JobBoard) (own : List Deed) → Leads x own y → Follows x own y
-follows_leads x y own leads t k = let next = leads t k in ([], tt, next.0, next.1)
+at_leads : (time : ℕ) (x y : JobBoard) (own : List Deed) → Leads x own y → FollowsAt time x own y
+at_leads time x y own leads t k = let next = leads t k in ([], tt, next.0, next.1)
 
-follows_unchanged : (x y : JobBoard) → IsUnchanged x y → Follows x [] y
-follows_unchanged x y same t k = (
+at_unchanged : (time : ℕ) (x y : JobBoard) → IsUnchanged x y → FollowsAt time x [] y
+at_unchanged time x y same t k = (
   [],
   tt,
   tt,
   shows_same t t.sched x y k (subst (ShowsCore t.sched) (sym same.0) k.core) same.1 same.2 (λ u slot busy. ap (λ (core : Core). job_arrival core slot) same.0),
 )
 
--- Some deeds lead from one board to another.
-abbrev pub HasDeeds : JobBoard → JobBoard → Type 0
-HasDeeds x y = (own : List Deed) × Follows x own y
+pub deeds_unchanged : (time : ℕ) (x y : JobBoard) → IsUnchanged x y → HasDeeds time x y
+deeds_unchanged time x y same = ([], at_unchanged time x y same)
 
-pub deeds_unchanged : (x y : JobBoard) → IsUnchanged x y → HasDeeds x y
-deeds_unchanged x y same = ([], follows_unchanged x y same)
-
-pub deeds_none : (x y : JobBoard) → y ≡ x → HasDeeds x y
-deeds_none x y same = ([], subst (λ (z : JobBoard). Follows x [] z) (sym same) (follows_leads x x [] (leads_none x)))
+pub deeds_none : (time : ℕ) (x y : JobBoard) → y ≡ x → HasDeeds time x y
+deeds_none time x y same = ([], subst (λ (z : JobBoard). FollowsAt time x [] z) (sym same) (at_leads time x x [] (leads_none x)))
 
 pub deeds_submit : (now : ℕ) (request : JobRequest) (answer : Result (ℕ × Effect) SubmitError) (x y : JobBoard)
     → IsSubmitAnswer now request answer x y
-    → HasDeeds x y
-deeds_submit now request (Ok it) x y is = (submits is.0.job ∷ [], at_follows now x y (submits is.0.job ∷ []) is.0.follows)
-deeds_submit now request (Err why) x y is = deeds_unchanged x y is.1
+    → HasDeeds now x y
+deeds_submit now request (Ok it) x y is = (submits is.0.job ∷ [], is.0.follows)
+deeds_submit now request (Err why) x y is = deeds_unchanged now x y is.1
 
 pub deeds_cancel : (now : ℕ) (ticket : ℕ) (answer : Result (ℕ × Effect) CancelError) (x y : JobBoard)
     → IsCancelAnswer now ticket answer x y
-    → HasDeeds x y
-deeds_cancel now ticket (Ok it) x y is = (cancels (job_arrival x.pool.core is.0.slot) ∷ [], at_follows now x y (cancels (job_arrival x.pool.core is.0.slot) ∷ []) is.0.follows)
-deeds_cancel now ticket (Err why) x y is = deeds_unchanged x y is.1
+    → HasDeeds now x y
+deeds_cancel now ticket (Ok it) x y is = (cancels (job_arrival x.pool.core is.0.slot) ∷ [], is.0.follows)
+deeds_cancel now ticket (Err why) x y is = deeds_unchanged now x y is.1
 
 pub deeds_take_out : (now : ℕ) (base dim : ℕ) (answer : Result Effect BlockError) (x y : JobBoard)
     → IsTakeOutAnswer now base dim answer x y
-    → HasDeeds x y
-deeds_take_out now base dim (Ok effect) x y is = (occupies (block_at base dim) ∷ [], at_follows now x y (occupies (block_at base dim) ∷ []) is.0.0)
-deeds_take_out now base dim (Err why) x y is = deeds_unchanged x y is.1
+    → HasDeeds now x y
+deeds_take_out now base dim (Ok effect) x y is = (occupies (block_at base dim) ∷ [], is.0.0)
+deeds_take_out now base dim (Err why) x y is = deeds_unchanged now x y is.1
 
 pub deeds_put_back : (now : ℕ) (base dim : ℕ) (answer : Result Effect BlockError) (x y : JobBoard)
     → IsPutBackAnswer now base dim answer x y
-    → HasDeeds x y
-deeds_put_back now base dim (Ok effect) x y is = (vacates (block_at base dim) ∷ [], at_follows now x y (vacates (block_at base dim) ∷ []) is.0.0)
-deeds_put_back now base dim (Err why) x y is = deeds_unchanged x y is.1
+    → HasDeeds now x y
+deeds_put_back now base dim (Ok effect) x y is = (vacates (block_at base dim) ∷ [], is.0.0)
+deeds_put_back now base dim (Err why) x y is = deeds_unchanged now x y is.1
 
 pub deeds_close : (now : ℕ) (do_start : Bool) (answer : Option Effect) (x y : JobBoard)
     → IsCloseAnswer now do_start answer x y
-    → HasDeeds x y
-deeds_close now do_start (Some effect) x y is = (closes ∷ [], at_follows now x y (closes ∷ []) is.1)
-deeds_close now do_start None x y is = deeds_unchanged x y is.1
+    → HasDeeds now x y
+deeds_close now do_start (Some effect) x y is = (closes ∷ [], is.1)
+deeds_close now do_start None x y is = deeds_unchanged now x y is.1
 
-pub deeds_rest : (from : ℕ) (answer : Option RestJob) (x y : JobBoard)
+pub deeds_rest : (time : ℕ) (from : ℕ) (answer : Option RestJob) (x y : JobBoard)
     → IsRestAnswer from answer x y
-    → HasDeeds x y
-deeds_rest from (Some rest) x y is = (cancels (job_arrival x.pool.core rest.slot) ∷ [], follows_leads x y (cancels (job_arrival x.pool.core rest.slot) ∷ []) is.1.leads)
-deeds_rest from None x y is = deeds_unchanged x y is.1
+    → HasDeeds time x y
+deeds_rest time from (Some rest) x y is =
+    let own : List Deed = cancels (job_arrival x.pool.core rest.slot) ∷ [] in
+    (own, at_leads time x y own is.1.leads)
+deeds_rest time from None x y is = deeds_unchanged time x y is.1
 
-pub deeds_settle : (now : ℕ) (effect : Effect) (x y : JobBoard) → IsSettled now effect x y → HasDeeds x y
-deeds_settle now effect x y is = ([], at_follows now x y [] is.0)
+pub deeds_settle : (now : ℕ) (effect : Effect) (x y : JobBoard) → IsSettled now effect x y → HasDeeds now x y
+deeds_settle now effect x y is = ([], is.0)

@@ -3,7 +3,7 @@ use Rattle.std.proofs.Common.{◌≡◌, ℕ, List, [], ◌∷◌, get_or, sym, 
 use mathlib.Core.Option.{some, some-injective, some-ne-none}
 use lib.ListN.{get_elem?}
 use Rattle.atomic_table.specs.Table.{Final}
-use Rattle.sched_threads.specs.Desk.{DeskData}
+use Rattle.sched_threads.specs.declared.clocked.ClockedDesk.{ClockedDesk}
 use Rattle.sched_board.specs.declared.sizes.ThreadSizes.{ThreadSizes}
 use Rattle.sched_threads.specs.Ends.{IsEnd}
 use Rattle.sched_threads.specs.Rule.{Keeps, last_desk}
@@ -12,13 +12,13 @@ first_word : (words : List ℕ) (n : ℕ) → get_elem? words 0 ≡ some n → g
 first_word [] n there = absurd (some-ne-none n (sym there))
 first_word (w ∷ words) n there = some-injective w n there
 
-pub ends : (sizes : ThreadSizes) (words : List ℕ) (slots : List DeskData) (word : ℕ) (desk : DeskData)
+pub ends : (sizes : ThreadSizes) (words : List ℕ) (slots : List ClockedDesk) (word : ℕ) (here : ClockedDesk)
     → Final (Keeps sizes) words slots
     → get_elem? words 0 ≡ some word
     → word ≡ 0
-    → get_elem? slots 0 ≡ some desk
-    → IsEnd sizes desk
-ends sizes words slots word desk final at_word zero_word at_slot =
+    → get_elem? slots 0 ≡ some here
+    → IsEnd sizes here.desk
+ends sizes words slots word here final at_word zero_word at_slot =
     let s = final.0 in
     let k = final.1 in
     let last = last_desk k.first k.turns in
@@ -27,7 +27,8 @@ ends sizes words slots word desk final at_word zero_word at_slot =
     record {
       first = k.first;
       fresh = k.fresh;
+      early = k.early;
       turns = k.turns;
       legal = k.legal;
-      left = some-injective desk last (sym at_slot ∙ there);
+      left = ap (λ (c : ClockedDesk). c.desk) (some-injective here last (sym at_slot ∙ there));
     }

@@ -7,22 +7,22 @@ use Rattle.atomic_table.proofs.Lists.{at_snoc, set_here}
 use Rattle.ghost_history.specs.Sums.{total}
 use Rattle.ghost_history.proofs.SumLemmas.{total-set, total-push, term_le}
 use Rattle.ghost_history.proofs.DealLemmas.{only_view, in_changed}
-use Rattle.sched_threads.specs.Desk.{DeskData}
+use Rattle.sched_threads.specs.declared.clocked.ClockedDesk.{ClockedDesk}
 use Rattle.sched_threads.specs.declared.view.View.{View}
 use Rattle.sched_threads.specs.Rule.{IsHeld, is_out, out_of}
 
 abbrev pub St : Type 0
-St = State DeskData View
+St = State ClockedDesk View
 
 -- The desk that a view found is this one.
-abbrev pub IsFound : DeskData → View → Type 0
-IsFound x v = (y : DeskData) → v.found ≡ Some y → y ≡ x
+abbrev pub IsFound : ClockedDesk → View → Type 0
+IsFound x v = (y : ClockedDesk) → v.found ≡ Some y → y ≡ x
 
-nothing_found : (x : DeskData) (v : View) → v.found ≡ None → IsFound x v
+nothing_found : (x : ClockedDesk) (v : View) → v.found ≡ None → IsFound x v
 nothing_found x v none y some_y = let no_way : None ≡ Some y = sym none ∙ some_y in cc
 
 -- A new table.
-pub opens : (v : View) (x : DeskData) → v.found ≡ None → IsHeld x (opening (0 ∷ []) (x ∷ []) v)
+pub opens : (v : View) (x : ClockedDesk) → v.found ≡ None → IsHeld x (opening (0 ∷ []) (x ∷ []) v)
 opens v x none =
     let is_in : is_out v ≡ 0 = ap out_of none in
     record {
@@ -34,7 +34,7 @@ opens v x none =
     }
 
 -- A seat is made that knows of no desk.
-pub pushes : (x : DeskData) (s : St) (c : IsHeld x s) (w : View) → w.found ≡ None
+pub pushes : (x : ClockedDesk) (s : St) (c : IsHeld x s) (w : View) → w.found ≡ None
     → IsHeld x (record { words = s.words; homes = s.homes; views = s.views ++ w ∷ [] })
 pushes x s c w none =
     let is_in : is_out w ≡ 0 = ap out_of none in
@@ -49,7 +49,7 @@ pushes x s c w none =
       ];
     }
 
-module _ (x : DeskData) (s : St) (c : IsHeld x s) (id : ℕ) (v : View)
+module _ (x : ClockedDesk) (s : St) (c : IsHeld x s) (id : ℕ) (v : View)
     (me : get_elem? s.views id ≡ some v) where
   -- A seat takes the desk if the word is 0.
   pub takes_desk : (w : View)
@@ -72,8 +72,23 @@ module _ (x : DeskData) (s : St) (c : IsHeld x s) (id : ℕ) (v : View)
             (λ i z at_i y e. c.taken i z y at_i e) j u there y some_y;
       }
 
+  -- A seat without the turn learns something else.
+  pub stays_held : (w : View) → v.found ≡ None → w.found ≡ None
+      → IsHeld x (record { words = s.words; homes = s.homes; views = set s.views id w })
+  stays_held w was_none none =
+      let was_in : is_out v ≡ 0 = ap out_of was_none in
+      let is_in : is_out w ≡ 0 = ap out_of none in
+      record {
+        words = c.words;
+        bit = c.bit;
+        out = omega (arith, total-set is_out s.views id v w me, c.out, was_in, is_in);
+        home = c.home;
+        taken = λ j u y there some_y. in_changed (IsFound x) s.views id w (nothing_found x w none)
+            (λ i z at_i y e. c.taken i z y at_i e) j u there y some_y;
+      }
+
   -- The seat gives a desk back.
-  pub gives_desk : (y : DeskData) (w : View)
+  pub gives_desk : (y : ClockedDesk) (w : View)
       → v.found ≡ Some x
       → w.found ≡ None
       → length s.homes ≡ 1

@@ -6,3 +6,5 @@ pub mod StepLemmas
 pub mod EndLemmas
 pub mod CallLemmas
 pub mod WorkerLemmas
+pub mod UseLemmas
+pub mod ReceiptFields

@@ -3,9 +3,11 @@ use Rattle.std.proofs.Common.{◌≡◌, ℕ, Option, Some, None, IfSome, List, 
 use Rattle.sched_pool.specs.Pool.{workers_of}
 use Rattle.sched_team.specs.Team.{Deed, IsHistory, May, Team, after, team_of}
 use Rattle.sched_board.specs.declared.board.JobBoard.{JobBoard}
+use Rattle.sched_board.proofs.FollowLemmas.{at_follows}
 use Rattle.sched_threads.specs.Desk.{DeskData}
+use Rattle.sched_threads.specs.declared.clocked.ClockedDesk.{ClockedDesk}
 use Rattle.sched_board.specs.declared.sizes.ThreadSizes.{ThreadSizes}
-use Rattle.sched_board.specs.JobBoard.{Follows, IsFresh, MayAll, ShowsTeam, after_all}
+use Rattle.sched_board.specs.JobBoard.{FollowsAt, IsFresh, MayAll, ShowsTeam, after_all}
 use Rattle.sched_threads.specs.declared.view.Turn.{Turn}
 use Rattle.sched_threads.specs.Ends.{IsEnd, Leads}
 use Rattle.sched_threads.specs.Rule.{AreTurns, last_desk}
@@ -25,14 +27,14 @@ legal_deeds dim patience workers (d ∷ deeds) history legal may = (
   legal_deeds dim patience workers deeds history legal may.1,
 )
 
-leads_on : (sizes : ThreadSizes) (x y : JobBoard) (own : List Deed)
+leads_on : (sizes : ThreadSizes) (time : ℕ) (x y : JobBoard) (own : List Deed)
     → workers_of x.pool ≡ sizes.workers
-    → Follows x own y
+    → FollowsAt time x own y
     → Leads sizes x
     → Leads sizes y
-leads_on sizes x y own count follows led =
+leads_on sizes time x y own count follows led =
     let history = led.0 in
-    let next = follows (team_of sizes.dim sizes.patience history) led.2 in
+    let next = at_follows time x y own follows (team_of sizes.dim sizes.patience history) led.2 in
     let deeds : List Deed = next.0 ++ own in (
       deeds ++ history,
       legal_deeds sizes.dim sizes.patience sizes.workers deeds history led.1 (subst (λ (n : ℕ). MayAll n (team_of sizes.dim sizes.patience history) deeds) count next.2),
@@ -40,26 +42,26 @@ leads_on sizes x y own count follows led =
     )
 
 -- A turn keeps the number of workers.
-pub count_last : (sizes : ThreadSizes) (first : DeskData)
-    → IsFresh sizes first.board
+pub count_last : (sizes : ThreadSizes) (first : ClockedDesk)
+    → IsFresh sizes first.desk.board
     → (turns : List Turn)
     → AreTurns first turns
-    → workers_of (last_desk first turns).board.pool ≡ sizes.workers
+    → workers_of (last_desk first turns).desk.board.pool ≡ sizes.workers
 count_last sizes first fresh [] legal = fresh.workers
 count_last sizes first fresh (t ∷ turns) legal =
     let may = legal.0 in
-    may.2.1 ∙ (ap (λ (x : DeskData). workers_of x.board.pool) may.1 ∙ count_last sizes first fresh turns legal.1)
+    may.2.1 ∙ (ap (λ (x : ClockedDesk). workers_of x.desk.board.pool) may.1 ∙ count_last sizes first fresh turns legal.1)
 
-pub leads_last : (sizes : ThreadSizes) (first : DeskData)
-    → IsFresh sizes first.board
+pub leads_last : (sizes : ThreadSizes) (first : ClockedDesk)
+    → IsFresh sizes first.desk.board
     → (turns : List Turn)
     → AreTurns first turns
-    → Leads sizes (last_desk first turns).board
+    → Leads sizes (last_desk first turns).desk.board
 leads_last sizes first fresh [] legal = ([], tt, fresh.shows)
 leads_last sizes first fresh (t ∷ turns) legal =
     let may = legal.0 in
-    let count : workers_of t.from.board.pool ≡ sizes.workers = ap (λ (x : DeskData). workers_of x.board.pool) may.1 ∙ count_last sizes first fresh turns legal.1 in
-    leads_on sizes t.from.board t.to.board may.2.0.0 count may.2.0.1 (subst (λ (x : DeskData). Leads sizes x.board) (sym may.1) (leads_last sizes first fresh turns legal.1))
+    let count : workers_of t.from.desk.board.pool ≡ sizes.workers = ap (λ (x : ClockedDesk). workers_of x.desk.board.pool) may.1 ∙ count_last sizes first fresh turns legal.1 in
+    leads_on sizes t.to.clock t.from.desk.board t.to.desk.board may.2.0.0 count may.2.0.1 (subst (λ (x : ClockedDesk). Leads sizes x.desk.board) (sym may.1) (leads_last sizes first fresh turns legal.1))
 
 pub end_leads : (sizes : ThreadSizes) (x : DeskData) → IsEnd sizes x → Leads sizes x.board
 end_leads sizes x is = subst (λ (d : DeskData). Leads sizes d.board) (sym is.left) (leads_last sizes is.first is.fresh is.turns is.legal)

@@ -1,24 +1,46 @@
 -- What calls on a shared scheduler do: each makes one turn.
-use Rattle.std.specs.Prelude.{◌≡◌, ◌≢◌, ℕ, ◌<◌, ◌⊎◌, Option, Result, Some, None, Ok, Err, [], ◌∷◌, IfSome, IfNone}
+use Rattle.std.specs.Prelude.{max, ◌≡◌, ◌≢◌, ℕ, ◌<◌, ◌⊎◌, Option, Result, Some, None, Ok, Err, [], ◌∷◌, IfSome, IfNone}
 use Rattle.sched_pool.specs.Pool.{worker_in, workers_of}
 use Rattle.sched_board.specs.declared.serving.Served.{Served}
 use Rattle.sched_board.specs.declared.serving.WorkerStage.TheVariants.{Asked as Waits, Has as Works}
 use Rattle.sched_board.specs.declared.board.JobBoard.{JobBoard}
 use Rattle.sched_threads.specs.declared.chair.Chair.TheVariants.{Free, Out, Asked, Has}
 use Rattle.sched_threads.specs.declared.desk.WrongState.{WrongState}
-use Rattle.sched_threads.specs.declared.threads.TurnReceipt.{TurnReceipt}
+use Rattle.sched_threads.specs.declared.threads.Threads.{Threads}
 use Rattle.sched_threads.specs.declared.view.Turn.{Turn}
+use Rattle.sched_threads.specs.declared.clocked.ClockedDesk.{ClockedDesk}
 use Rattle.sched_threads.specs.Desk.{DeskData, HasOtherChairs, HasUnseen, IsSameDesk, chair_of, stage_of, stage_to_end}
+use Rattle.sched_threads.specs.Handle.{table_of}
+use Rattle.sched_threads.specs.Seats.{SeatOf}
+use Rattle.sched_threads.specs.Step.{IsBarred}
 use Rattle.sched_threads.specs.Turns.{IsServing, IsStopping, Moves}
 use Rattle.sched_threads.specs.View.{view}
 
 -- The thread noted this turn, and no other.
-abbrev pub Notes : TurnReceipt → Turn → Type 0
-Notes receipt turn = receipt.seat.me ≡ (view (turn ∷ []) None, [])
+abbrev pub Notes : SeatOf → Turn → Type 0
+Notes receipt turn = receipt.me ≡ (view (turn ∷ []) None, [])
 
--- The thread made a turn with this property, from one desk to another.
-abbrev pub MadeTurn : TurnReceipt → (DeskData → DeskData → Type 0) → Type 0
-MadeTurn receipt Does = (turn : Turn) × Notes receipt turn × Does turn.from turn.to
+-- The thread is at the table of this scheduler. It made a turn with this property, from one desk to
+-- another.
+abbrev pub MadeTurn : Threads → SeatOf → (ClockedDesk → ClockedDesk → Type 0) → Type 0
+MadeTurn threads receipt Does =
+    (receipt.table_id ≡ table_of threads.turns)
+    × ((turn : Turn) × Notes receipt turn × Does turn.from turn.to)
+
+-- The thread is at the table of this scheduler. It made no turn, and found that another thread had
+-- it.
+abbrev pub WasBarred : Threads → SeatOf → Type 0
+WasBarred threads receipt = (receipt.table_id ≡ table_of threads.turns) × IsBarred receipt.me
+
+-- The turn has this property of the two desks, at the later of this time and that of the clock. The
+-- clock shows that time then.
+abbrev pub Timed : ℕ → (ℕ → DeskData → DeskData → Type 0) → ClockedDesk → ClockedDesk → Type 0
+Timed now Does x y =
+    Does (max now x.clock) x.desk y.desk × (y.clock ≡ max now x.clock)
+
+-- The turn has this property of the two desks. The clock shows the same time.
+abbrev pub Untimed : (DeskData → DeskData → Type 0) → ClockedDesk → ClockedDesk → Type 0
+Untimed Does x y = Does x.desk y.desk × (y.clock ≡ x.clock)
 
 -- The same property of the boards of two desks. What is known of the workers' threads is the same.
 -- Each worker does the same, or got a job for which it waited.

@@ -3,6 +3,7 @@ use Rattle.std.specs.Prelude.{◌≡◌, List}
 use Rattle.sched_team.specs.Team.{Deed, IsHistory, team_of}
 use Rattle.sched_board.specs.declared.board.JobBoard.{JobBoard}
 use Rattle.sched_threads.specs.Desk.{DeskData}
+use Rattle.sched_threads.specs.declared.clocked.ClockedDesk.{ClockedDesk}
 use Rattle.sched_board.specs.declared.sizes.ThreadSizes.{ThreadSizes}
 use Rattle.sched_board.specs.JobBoard.{IsFresh, ShowsTeam}
 use Rattle.sched_threads.specs.declared.view.Turn.{Turn}
@@ -16,8 +17,9 @@ Leads sizes x =
 
 -- Some sequence of turns led from a new desk to this one.
 pub record IsEnd (sizes : ThreadSizes) (x : DeskData) : Type 0 where
-  pub first : DeskData
-  pub fresh : IsFresh sizes first.board
+  pub first : ClockedDesk
+  pub fresh : IsFresh sizes first.desk.board
+  pub early : first.clock ≡ 0
   pub turns : List Turn
   pub legal : AreTurns first turns
-  pub left : x ≡ last_desk first turns
+  pub left : x ≡ (last_desk first turns).desk

@@ -1,49 +1,39 @@
 //! How a shared scheduler closes.
 
-ghost use Rattle.std.specs.Prelude.{IfSome};
-ghost use Rattle.sched_threads.specs.Turns.{IsCloseAnswer, IsRestAnswer, IsSettled};
-ghost use Rattle.sched_threads.specs.Calls.{MadeTurn, OnBoards};
+ghost use Rattle.std.specs.Prelude.{IfErr, IfOk};
+ghost use Rattle.sched_threads.specs.Turns.{IsCloseAnswer, IsSettled};
+ghost use Rattle.sched_threads.specs.Calls.{MadeTurn, OnBoards, Timed, WasBarred};
 
-use crate::threads::{Threads, TurnReceipt};
-use sched_board::{Effect, RestJob};
+use crate::receipt::{NotNow, TurnReceipt};
+use crate::threads::Threads;
+use sched_board::Effect;
 
 impl Threads {
-    /// Lets no job come any more. Those that wait start, or are given back by `take_rest`. Returns
-    /// `None` and does nothing if another thread has the turn, and `None` for the effect if no job
-    /// may come already.
-    pub fn close(&self, do_start: bool, now: u64) -> Option<(Option<Effect>, TurnReceipt)>
-        ensures { IfSome result (λ done. MadeTurn done.1
-            (OnBoards (IsCloseAnswer now do_start done.0))) }
+    /// Lets no job come any more. Those that wait start, or are given back by `give_back`. The
+    /// effect is `None` if no job may come already. Fails and does nothing if another thread has
+    /// the turn.
+    pub fn close(&self, do_start: bool, now: u64) -> Result<(Option<Effect>, TurnReceipt), NotNow>
+        ensures made { IfOk result (λ done. MadeTurn self.now done.1 (Timed now (λ time. OnBoards
+            (IsCloseAnswer time do_start done.0)))) }
+        ensures barred { IfErr result (λ not_now. WasBarred self.now not_now.receipt) }
     {
         let mut seat = self.turns.arrive()?;
-        let desk = seat.slot_mut(&self.turns.table.shared, 0);
-        let answer = desk.close(do_start, now);
-        self.turns.leave(&mut seat);
-        Some((answer, TurnReceipt { seat }))
+        let clocked = seat.slot_mut(&self.turns.table.shared, 0);
+        clocked.clock = now.max(clocked.clock);
+        let answer = clocked.desk.close(do_start, clocked.clock);
+        Ok((answer, self.turns.leave(seat)))
     }
 
-    /// Removes the first waiting job in slots from one on, and gives it back. The job is `None` if
-    /// there is none, or if jobs may still come. Returns `None` and does nothing if another thread
-    /// has the turn.
-    pub fn take_rest(&self, from: u32) -> Option<(Option<RestJob>, TurnReceipt)>
-        ensures { IfSome result (λ done. MadeTurn done.1 (OnBoards (IsRestAnswer from done.0))) }
+    /// Starts jobs for workers that wait. Fails and does nothing if another thread has the turn.
+    pub fn settle(&self, now: u64) -> Result<(Effect, TurnReceipt), NotNow>
+        ensures made { IfOk result (λ done. MadeTurn self.now done.1 (Timed now (λ time. OnBoards
+            (IsSettled time done.0)))) }
+        ensures barred { IfErr result (λ not_now. WasBarred self.now not_now.receipt) }
     {
         let mut seat = self.turns.arrive()?;
-        let desk = seat.slot_mut(&self.turns.table.shared, 0);
-        let answer = desk.take_rest(from);
-        self.turns.leave(&mut seat);
-        Some((answer, TurnReceipt { seat }))
-    }
-
-    /// Starts jobs for workers that wait. Returns `None` and does nothing if another thread has the
-    /// turn.
-    pub fn settle(&self, now: u64) -> Option<(Effect, TurnReceipt)>
-        ensures { IfSome result (λ done. MadeTurn done.1 (OnBoards (IsSettled now done.0))) }
-    {
-        let mut seat = self.turns.arrive()?;
-        let desk = seat.slot_mut(&self.turns.table.shared, 0);
-        let answer = desk.settle(now);
-        self.turns.leave(&mut seat);
-        Some((answer, TurnReceipt { seat }))
+        let clocked = seat.slot_mut(&self.turns.table.shared, 0);
+        clocked.clock = now.max(clocked.clock);
+        let answer = clocked.desk.settle(clocked.clock);
+        Ok((answer, self.turns.leave(seat)))
     }
 }

@@ -1,10 +1,10 @@
 //! What threads that are no workers ask of a desk.
 
 ghost use Rattle.std.specs.Prelude.{◌≡◌, None};
-ghost use Rattle.sched_threads.specs.Turns.{IsCancelAnswer, IsCloseAnswer, IsPutBackAnswer, IsRestAnswer, IsSettled, IsSubmitAnswer, IsTakeOutAnswer, Moves};
+ghost use Rattle.sched_threads.specs.Turns.{IsCancelAnswer, IsCloseAnswer, IsPutBackAnswer, IsSettled, IsSubmitAnswer, IsTakeOutAnswer, Moves};
 
 use crate::desk::Desk;
-use sched_board::{BlockError, CancelError, Effect, JobRequest, RestJob, Scheduler, SubmitError};
+use sched_board::{BlockError, CancelError, Effect, JobRequest, Scheduler, SubmitError};
 
 impl Desk {
     /// Returns the scheduler, to read it.
@@ -51,7 +51,7 @@ impl Desk {
         self.board.put_back(base, dim, now)
     }
 
-    /// Lets no job come any more. Those that wait start, or are given back by `take_rest`. Returns
+    /// Lets no job come any more. Those that wait start, or are given back by `give_back`. Returns
     /// `None` only if no job may come already.
     pub fn close(&mut self, do_start: bool, now: u64) -> Option<Effect>
         ensures answer { IsCloseAnswer now do_start result self.old.board self.new.board }
@@ -59,16 +59,6 @@ impl Desk {
         ensures chairs { self.new.chairs ≡ self.old.chairs }
     {
         self.board.shut(do_start, now)
-    }
-
-    /// Removes the first waiting job in slots from one on, and gives it back. Returns `None` only
-    /// if there is none, or if jobs may still come.
-    pub fn take_rest(&mut self, from: u32) -> Option<RestJob>
-        ensures answer { IsRestAnswer from result self.old.board self.new.board }
-        ensures moves { Moves None self.old.board self.new.board }
-        ensures chairs { self.new.chairs ≡ self.old.chairs }
-    {
-        self.board.take_rest(from)
     }
 
     /// Starts jobs for workers that wait.

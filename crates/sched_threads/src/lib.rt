@@ -8,13 +8,16 @@
 
 mod block_calls;
 mod chair;
+mod clocked;
 mod close_calls;
 mod counts;
 mod desk;
 mod desk_calls;
+mod end_calls;
 mod law;
 mod look_calls;
 mod plays;
+mod receipt;
 mod seating;
 mod table;
 #[cfg(test)]
@@ -27,8 +30,9 @@ pub use chair::Chair;
 pub use counts::SchedCounts;
 pub use desk::{Desk, WrongState};
 pub use law::turns_are_a_history;
+pub use receipt::{HiddenReceipt, NotNow, TurnReceipt};
 pub use sched_board::{
     BlockError, CancelError, Effect, Forecast, JobRequest, RestJob, Served, SubmitError,
     ThreadSizes, ThreadStart, Woken,
 };
-pub use threads::{Threads, TurnReceipt};
+pub use threads::Threads;

@@ -1,12 +1,13 @@
 //! What threads read of a shared scheduler.
 
-ghost use Rattle.std.specs.Prelude.{IfSome};
-ghost use Rattle.sched_threads.specs.Calls.{MadeTurn};
+ghost use Rattle.std.specs.Prelude.{IfErr, IfOk};
+ghost use Rattle.sched_threads.specs.Calls.{MadeTurn, Untimed, WasBarred};
 ghost use Rattle.sched_threads.specs.Looks.{HasCounts, IsLookAnswer, Reads};
 
 use crate::counts::SchedCounts;
 use crate::desk::Desk;
-use crate::threads::{Threads, TurnReceipt};
+use crate::receipt::{NotNow, TurnReceipt};
+use crate::threads::Threads;
 use sched_board::Forecast;
 
 impl Desk {
@@ -37,27 +38,28 @@ impl Desk {
 
 impl Threads {
     /// Returns what is known of when and where the job with a ticket runs. That is `None` if the
-    /// ticket is of no job, or of one that is over. Returns `None` and does nothing if another
-    /// thread has the turn.
-    pub fn look(&self, ticket: u64) -> Option<(Option<Forecast>, TurnReceipt)>
-        ensures { IfSome result (λ done. MadeTurn done.1 (Reads (IsLookAnswer ticket done.0))) }
+    /// ticket is of no job, or of one that is over. Fails and does nothing if another thread has
+    /// the turn.
+    pub fn look(&self, ticket: u64) -> Result<(Option<Forecast>, TurnReceipt), NotNow>
+        ensures made { IfOk result (λ done. MadeTurn self.now done.1 (Untimed (Reads (IsLookAnswer
+            ticket done.0)))) }
+        ensures barred { IfErr result (λ not_now. WasBarred self.now not_now.receipt) }
     {
         let mut seat = self.turns.arrive()?;
-        let desk = seat.slot_mut(&self.turns.table.shared, 0);
-        let answer = desk.look(ticket);
-        self.turns.leave(&mut seat);
-        Some((answer, TurnReceipt { seat }))
+        let clocked = seat.slot_mut(&self.turns.table.shared, 0);
+        let answer = clocked.desk.look(ticket);
+        Ok((answer, self.turns.leave(seat)))
     }
 
-    /// Returns how much the scheduler does. Returns `None` and does nothing if another thread has
-    /// the turn.
-    pub fn counts(&self) -> Option<(SchedCounts, TurnReceipt)>
-        ensures { IfSome result (λ done. MadeTurn done.1 (Reads (HasCounts done.0))) }
+    /// Returns how much the scheduler does. Fails and does nothing if another thread has the turn.
+    pub fn counts(&self) -> Result<(SchedCounts, TurnReceipt), NotNow>
+        ensures made { IfOk result (λ done. MadeTurn self.now done.1 (Untimed (Reads (HasCounts
+            done.0)))) }
+        ensures barred { IfErr result (λ not_now. WasBarred self.now not_now.receipt) }
     {
         let mut seat = self.turns.arrive()?;
-        let desk = seat.slot_mut(&self.turns.table.shared, 0);
-        let answer = desk.counts();
-        self.turns.leave(&mut seat);
-        Some((answer, TurnReceipt { seat }))
+        let clocked = seat.slot_mut(&self.turns.table.shared, 0);
+        let answer = clocked.desk.counts();
+        Ok((answer, self.turns.leave(seat)))
     }
 }

@@ -2,7 +2,9 @@
 
 use crate::counts::SchedCounts;
 use crate::desk::WrongState;
-use crate::threads::{Threads, TurnReceipt};
+use crate::receipt::{NotNow, TurnReceipt};
+use crate::threads::Threads;
+use cube_shape::Region;
 use sched_board::{
     BlockError, CancelError, Forecast, JobRequest, Served, SubmitError, ThreadSizes,
 };
@@ -33,13 +35,13 @@ fn opened(rt: &impl Abort, alloc: Global) -> Threads {
 fn takes_shared<T: Sync>(_: &T) {}
 
 // Returns what a call answered. No other thread has the turn.
-fn answered<T>(rt: &impl Abort, done: Option<(T, TurnReceipt)>) -> T {
-    let (answer, _) = done.expect(rt, "another thread has the turn");
+fn answered<T>(rt: &impl Abort, done: Result<(T, TurnReceipt), NotNow>) -> T {
+    let (answer, _) = done.ok().expect(rt, "another thread has the turn");
     answer
 }
 
 // Returns what a call did.
-fn agreed<T, E: Debug>(rt: &impl Abort, done: Option<(Result<T, E>, TurnReceipt)>) -> T {
+fn agreed<T, E: Debug>(rt: &impl Abort, done: Result<(Result<T, E>, TurnReceipt), NotNow>) -> T {
     answered(rt, done).expect(rt, "the call is refused")
 }
 
@@ -149,15 +151,43 @@ fn a_block_is_out_of_service(rt: HostRuntime) {
 fn a_stopped_scheduler_gives_jobs_back(rt: HostRuntime) {
     let threads = opened(&rt, rt.alloc());
     let (ticket, _) = agreed(&rt, threads.submit(SMALL, 1));
-    assert!(&rt; answered(&rt, threads.take_rest(0)).is_none());
+    assert_eq!(&rt; answered(&rt, threads.give_back(0)), Err(WrongState));
     let effect = answered(&rt, threads.close(false, 2)).expect(&rt, "closed before");
     assert!(&rt; effect.over);
     assert!(&rt; answered(&rt, threads.close(true, 2)).is_none());
     let refused = answered(&rt, threads.submit(SMALL, 3));
     assert_eq!(&rt; refused, Err(SubmitError::Closed));
-    let rest = answered(&rt, threads.take_rest(0)).expect(&rt, "no job");
+    let rest = agreed(&rt, threads.give_back(0)).expect(&rt, "no job");
     assert_eq!(&rt; rest.ticket, ticket);
     assert_eq!(&rt; rest.payload, 5);
-    assert!(&rt; answered(&rt, threads.take_rest(0)).is_none());
+    assert!(&rt; agreed(&rt, threads.give_back(0)).is_none());
+    ends(&rt, threads);
+}
+
+// A scheduler is used while a thread is a worker or a job waits.
+#[test]
+fn a_used_scheduler_says_so(rt: HostRuntime) {
+    let threads = opened(&rt, rt.alloc());
+    assert!(&rt; !answered(&rt, threads.is_used()));
+    assert_eq!(&rt; answered(&rt, threads.sit()), Some(0));
+    assert!(&rt; answered(&rt, threads.is_used()));
+    agreed(&rt, threads.rise(0, 0));
+    let (ticket, _) = agreed(&rt, threads.submit(SMALL, 1));
+    assert!(&rt; answered(&rt, threads.is_used()));
+    agreed(&rt, threads.cancel(ticket, 2));
+    assert!(&rt; !answered(&rt, threads.is_used()));
+    ends(&rt, threads);
+}
+
+// A turn has the latest time so far.
+#[test]
+fn the_time_never_goes_back(rt: HostRuntime) {
+    let threads = opened(&rt, rt.alloc());
+    assert_eq!(&rt; answered(&rt, threads.sit()), Some(0));
+    let (ticket, _) = agreed(&rt, threads.submit(SMALL, 100));
+    agreed(&rt, threads.next(0, 50));
+    let block = Region { base: 0, dim: 0 };
+    let started = Forecast::Started(block, 110);
+    assert!(&rt; answered(&rt, threads.look(ticket)) == Some(started));
     ends(&rt, threads);
 }

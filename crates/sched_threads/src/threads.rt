@@ -1,12 +1,13 @@
 //! The scheduler that threads share.
 
-ghost use Rattle.std.specs.Prelude.{◌≡◌, ◌≤◌, IfOk, IfSome};
+ghost use Rattle.std.specs.Prelude.{◌≡◌, ◌≤◌, IfErr, IfOk, IfSome};
 ghost use Rattle.cube_shape.specs.declared.limits.TheConstants.{MAX_BITMAP_DIM};
 ghost use Rattle.sched_pool.specs.declared.workers.TheConstants.{MAX_WORKERS};
 ghost use Rattle.sched_threads.specs.Turns.{IsCancelAnswer, IsSubmitAnswer};
 
 use crate::desk::Desk;
-use crate::table::{Seat, TurnTable};
+use crate::receipt::{NotNow, TurnReceipt};
+use crate::table::TurnTable;
 use cube_shape::MAX_BITMAP_DIM;
 use fixed_vec::Store;
 use sched_board::{
@@ -20,14 +21,8 @@ pub struct Threads {
     pub(crate) turns: TurnTable,
 }
 
-/// What a thread did: one turn.
-#[derive(Drop)]
-pub struct TurnReceipt {
-    pub(crate) seat: Seat,
-}
-
 impl Threads {
-    ghost use Rattle.sched_threads.specs.Calls.{MadeTurn, OnBoards};
+    ghost use Rattle.sched_threads.specs.Calls.{MadeTurn, OnBoards, Timed, WasBarred};
     ghost use Rattle.sched_threads.specs.Handle.{sizes_of};
     ghost use Rattle.sched_threads.specs.Ends.{IsEnd, Leads};
 
@@ -45,38 +40,40 @@ impl Threads {
     }
 
     /// Submits a job, and starts jobs for workers that wait. Returns the job's ticket, or why it is
-    /// not accepted. Returns `None` and does nothing if another thread has the turn.
+    /// not accepted. Fails and does nothing if another thread has the turn.
     pub fn submit(
         &self,
         request: JobRequest,
         now: u64,
-    ) -> Option<(Result<(u64, Effect), SubmitError>, TurnReceipt)>
-        ensures { IfSome result (λ done. MadeTurn done.1
-            (OnBoards (IsSubmitAnswer now request done.0))) }
+    ) -> Result<(Result<(u64, Effect), SubmitError>, TurnReceipt), NotNow>
+        ensures made { IfOk result (λ done. MadeTurn self.now done.1 (Timed now (λ time. OnBoards
+            (IsSubmitAnswer time request done.0)))) }
+        ensures barred { IfErr result (λ not_now. WasBarred self.now not_now.receipt) }
     {
         let mut seat = self.turns.arrive()?;
-        let desk = seat.slot_mut(&self.turns.table.shared, 0);
-        let answer = desk.submit(request, now);
-        self.turns.leave(&mut seat);
-        Some((answer, TurnReceipt { seat }))
+        let clocked = seat.slot_mut(&self.turns.table.shared, 0);
+        clocked.clock = now.max(clocked.clock);
+        let answer = clocked.desk.submit(request, clocked.clock);
+        Ok((answer, self.turns.leave(seat)))
     }
 
     /// Removes a waiting job, and starts jobs for workers that wait. Returns the number that came
-    /// with the job, or why it is not removed. Returns `None` and does nothing if another thread
-    /// has the turn.
+    /// with the job, or why it is not removed. Fails and does nothing if another thread has the
+    /// turn.
     pub fn cancel(
         &self,
         ticket: u64,
         now: u64,
-    ) -> Option<(Result<(u64, Effect), CancelError>, TurnReceipt)>
-        ensures { IfSome result (λ done. MadeTurn done.1
-            (OnBoards (IsCancelAnswer now ticket done.0))) }
+    ) -> Result<(Result<(u64, Effect), CancelError>, TurnReceipt), NotNow>
+        ensures made { IfOk result (λ done. MadeTurn self.now done.1 (Timed now (λ time. OnBoards
+            (IsCancelAnswer time ticket done.0)))) }
+        ensures barred { IfErr result (λ not_now. WasBarred self.now not_now.receipt) }
     {
         let mut seat = self.turns.arrive()?;
-        let desk = seat.slot_mut(&self.turns.table.shared, 0);
-        let answer = desk.cancel(ticket, now);
-        self.turns.leave(&mut seat);
-        Some((answer, TurnReceipt { seat }))
+        let clocked = seat.slot_mut(&self.turns.table.shared, 0);
+        clocked.clock = now.max(clocked.clock);
+        let answer = clocked.desk.cancel(ticket, clocked.clock);
+        Ok((answer, self.turns.leave(seat)))
     }
 
     /// Ends the scheduler. Returns the desk, unless a thread never ended its turn.

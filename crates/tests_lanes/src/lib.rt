@@ -1,4 +1,4 @@
-//! Tests of the lanes of jobs (`job_lanes`) that are worked out by hand, and of shared lanes.
+//! Tests of the lanes of jobs (`job_lanes`) that are worked out by hand.
 #![tactic(auto)]
 
 #[cfg(test)]

@@ -2,7 +2,6 @@ ghost use Rattle.std.specs.Prelude.{◌≡◌, Ok};
 
 mod calls;
 mod script;
-mod sharing;
 
 use std::fmt::Debug;
 use std::process::Abort;

@@ -18,7 +18,7 @@ use Rattle.job_lanes.specs.declared.view.View.{View}
 use Rattle.job_lanes.specs.declared.view.Both.{Both}
 use Rattle.job_lanes.specs.Layout.{lane_of}
 use Rattle.job_lanes.specs.Record.{take_of}
-use Rattle.job_lanes.specs.Inner.View.{first_view, without_lane, lane_alone, without_worker, worker_alone, nothing_of, joined, spent_view}
+use Rattle.job_lanes.specs.Inner.View.{first_view, without_lane, lane_alone, without_worker, worker_alone, joined, spent_view}
 use Rattle.job_lanes.specs.Inner.Rule.{reads, Keeps}
 use Rattle.job_lanes.specs.Inner.Step.{Sat, Play, worker_in, accepts_at, reads_tail_at, takes_at}
 
@@ -102,12 +102,6 @@ without_worker_both v = both (without_worker v.known) (rest_of v.sleepers) v.oth
 
 abbrev pub worker_alone_both : Both → Both
 worker_alone_both v = both (worker_alone v.known) (first_of v.sleepers) [] []
-
-abbrev pub as_it_is_both : Both → Both
-as_it_is_both v = v
-
-abbrev pub nothing_of_both : Both → Both
-nothing_of_both v = both (nothing_of v.known) [] [] []
 
 abbrev pub joined_both : Both → Both → Both
 joined_both v w = both (joined v.known w.known) (threads_in v ++ threads_in w) [] (v.deeds ++ w.deeds)

@@ -48,12 +48,6 @@ without_worker v = view v.lanes (rest_of v.workers) v.closers
 abbrev pub worker_alone : View → View
 worker_alone v = view [] (first_of v.workers) []
 
-abbrev pub as_it_is : View → View
-as_it_is v = v
-
-abbrev pub nothing_of : View → View
-nothing_of v = view [] [] []
-
 abbrev pub joined : View → View → View
 joined v w = view (v.lanes ++ w.lanes) (v.workers ++ w.workers) (v.closers ++ w.closers)
 

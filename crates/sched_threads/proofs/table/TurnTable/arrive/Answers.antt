@@ -1,7 +1,5 @@
-use Rattle.std.proofs.Common.{[], ◌∷◌, ap, ◌∙◌, arith}
-use Rattle.sched_threads.specs.Desk.{DeskData}
-use Rattle.sched_threads.specs.Step.{Sat}
-use Rattle.sched_threads.specs.View.{blank_view, holding}
+use Rattle.std.proofs.Common.{ℕ, [], ap, ◌∙◌, arith}
+use Rattle.sched_threads.specs.View.{blank_view, first_view}
 use Rattle.sched_threads.proofs.StepLemmas.{arrives_step, enters_step}
 use Rattle.sched_threads.proofs.table.TurnTable.arrive.Goals as goal
 
@@ -13,12 +11,9 @@ compare_exchange-requires c =
     let made = c.load_new_seat-found.ensures in (
       made.0,
       omega (arith, c.args.self.now.sized.0),
-      enters_step _ _ _ _ (made.1, ap (λ (z : Sat). z.0.found) made.2),
+      enters_step _ _ _ _ (made.2 ∙ ap (λ (n : ℕ). (first_view n, [])) c.if-found-eq0.true),
     )
 
 pub returns-then-compare_exchange-eq0-clause-took :
     goal.returns-then-compare_exchange-eq0-clause-took
-returns-then-compare_exchange-eq0-clause-took c =
-    let took = c.compare_exchange.ensures.2.0 c.if-compare_exchange-eq0.true in
-    let x : DeskData = took.0 in
-    (x, took.1 ∙ ap (λ (z : Sat). (holding z.0 x, (0, x) ∷ [])) c.load_new_seat-found.ensures.2)
+returns-then-compare_exchange-eq0-clause-took c = c.compare_exchange.ensures.2.0 c.if-compare_exchange-eq0.true

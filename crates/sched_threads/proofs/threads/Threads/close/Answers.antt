@@ -1,23 +1,28 @@
+use Rattle.std.proofs.Common.{ℕ}
 use Rattle.sched_threads.specs.Turns.{IsCloseAnswer}
-use Rattle.sched_threads.specs.Calls.{OnBoards}
+use Rattle.sched_threads.specs.Calls.{OnBoards, Timed}
 use Rattle.sched_threads.proofs.AnswerLemmas.{deeds_close}
+use Rattle.sched_threads.proofs.WorkerLemmas.{timed, timed_turn}
 use Rattle.sched_threads.proofs.CallLemmas.{made_turn, out_slot, out_turn}
 use Rattle.sched_threads.proofs.threads.Threads.close.Goals as goal
 
-pub slot_mut-desk-requires : goal.slot_mut-desk-requires
-slot_mut-desk-requires c =
+pub slot_mut-clocked-requires : goal.slot_mut-clocked-requires
+slot_mut-clocked-requires c =
     let seat = c.in_ok-seat.ensures in
     (seat.table, out_slot c.in_ok-seat.seat.me seat.took)
 
 pub leave-requires-clause-out : goal.leave-requires-clause-out
 leave-requires-clause-out c =
     let e = c.close-answer.ensures in
-    out_turn c.in_ok-seat.seat.me _ _ c.in_ok-seat.ensures.took c.slot_mut-desk.ensures.value
-    (deeds_close _ _ _ _ _ e.answer, e.moves.1)
+    out_turn c.in_ok-seat.seat.me _ _ c.in_ok-seat.ensures.took c.slot_mut-clocked.ensures.value
+    (timed_turn c.args.now c.max-clocked.result c.slot_mut-clocked.result.now c.close-answer.new.self c.max-clocked.ensures
+    (deeds_close _ _ _ _ _ e.answer, e.moves.1))
 
-pub returns : goal.returns
-returns c =
-    let e = c.close-answer.ensures in
-    made_turn c.in_ok-seat.seat.me _ _ _ (OnBoards (IsCloseAnswer c.args.now c.args.do_start c.close-answer.result))
-    c.in_ok-seat.ensures.took c.slot_mut-desk.ensures.value c.leave.ensures.noted
-    (e.answer, e.chairs, e.moves)
+pub returns-clause-made : goal.returns-clause-made
+returns-clause-made c =
+    let e = c.close-answer.ensures in (
+      c.leave.ensures.table,
+      made_turn c.in_ok-seat.seat.me _ _ _ (Timed c.args.now (λ (time : ℕ). OnBoards (IsCloseAnswer time c.args.do_start c.close-answer.result)))
+          c.in_ok-seat.ensures.took c.slot_mut-clocked.ensures.value c.leave.ensures.noted
+          (timed c.args.now c.max-clocked.result c.slot_mut-clocked.result.now c.close-answer.new.self (λ (time : ℕ). OnBoards (IsCloseAnswer time c.args.do_start c.close-answer.result)) c.max-clocked.ensures (e.answer, e.chairs, e.moves)),
+    )

@@ -1,23 +1,28 @@
+use Rattle.std.proofs.Common.{ℕ}
 use Rattle.sched_threads.specs.Turns.{IsPutBackAnswer}
-use Rattle.sched_threads.specs.Calls.{OnBoards}
+use Rattle.sched_threads.specs.Calls.{OnBoards, Timed}
 use Rattle.sched_threads.proofs.AnswerLemmas.{deeds_put_back}
+use Rattle.sched_threads.proofs.WorkerLemmas.{timed, timed_turn}
 use Rattle.sched_threads.proofs.CallLemmas.{made_turn, out_slot, out_turn}
 use Rattle.sched_threads.proofs.threads.Threads.put_back.Goals as goal
 
-pub slot_mut-desk-requires : goal.slot_mut-desk-requires
-slot_mut-desk-requires c =
+pub slot_mut-clocked-requires : goal.slot_mut-clocked-requires
+slot_mut-clocked-requires c =
     let seat = c.in_ok-seat.ensures in
     (seat.table, out_slot c.in_ok-seat.seat.me seat.took)
 
 pub leave-requires-clause-out : goal.leave-requires-clause-out
 leave-requires-clause-out c =
     let e = c.put_back-answer.ensures in
-    out_turn c.in_ok-seat.seat.me _ _ c.in_ok-seat.ensures.took c.slot_mut-desk.ensures.value
-    (deeds_put_back _ _ _ _ _ _ e.answer, e.moves.1)
+    out_turn c.in_ok-seat.seat.me _ _ c.in_ok-seat.ensures.took c.slot_mut-clocked.ensures.value
+    (timed_turn c.args.now c.max-clocked.result c.slot_mut-clocked.result.now c.put_back-answer.new.self c.max-clocked.ensures
+    (deeds_put_back _ _ _ _ _ _ e.answer, e.moves.1))
 
-pub returns : goal.returns
-returns c =
-    let e = c.put_back-answer.ensures in
-    made_turn c.in_ok-seat.seat.me _ _ _ (OnBoards (IsPutBackAnswer c.args.now c.args.base c.args.dim c.put_back-answer.result))
-    c.in_ok-seat.ensures.took c.slot_mut-desk.ensures.value c.leave.ensures.noted
-    (e.answer, e.chairs, e.moves)
+pub returns-clause-made : goal.returns-clause-made
+returns-clause-made c =
+    let e = c.put_back-answer.ensures in (
+      c.leave.ensures.table,
+      made_turn c.in_ok-seat.seat.me _ _ _ (Timed c.args.now (λ (time : ℕ). OnBoards (IsPutBackAnswer time c.args.base c.args.dim c.put_back-answer.result)))
+          c.in_ok-seat.ensures.took c.slot_mut-clocked.ensures.value c.leave.ensures.noted
+          (timed c.args.now c.max-clocked.result c.slot_mut-clocked.result.now c.put_back-answer.new.self (λ (time : ℕ). OnBoards (IsPutBackAnswer time c.args.base c.args.dim c.put_back-answer.result)) c.max-clocked.ensures (e.answer, e.chairs, e.moves)),
+    )

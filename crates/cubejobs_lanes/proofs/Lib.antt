@@ -1,0 +1,4 @@
+mod AsBox
+mod AskLemmas
+mod CrossLemmas
+pub mod EmptyLemmas

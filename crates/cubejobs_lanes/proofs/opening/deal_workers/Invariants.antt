@@ -1,0 +1,14 @@
+use Rattle.std.proofs.Common.{◌≡◌, ◌≤◌, length}
+use Rattle.std.specs.Vec.{vec_capacity}
+use Rattle.kept_places.specs.Kept.{HasFreshWorkers}
+use Rattle.cubejobs_lanes.proofs.opening.deal_workers.Given as goal
+
+abbrev pub invariant-loop : goal.invariant-loop
+invariant-loop l = record {
+  id : l.members.id ≡ l.lanes;
+  dealt : l.members.dealt_workers ≡ l.counter;
+  lanes : l.members.dealt_lanes ≡ l.fn.members.dealt_lanes;
+  count : length l.places.items ≡ l.counter;
+  room : l.count ≤ vec_capacity l.places;
+  fresh : HasFreshWorkers l.lanes l.counter l.places.items;
+}

@@ -1,0 +1,89 @@
+//! The functions of the library that close a scheduler, under the names that C declares.
+ghost use Rattle.std.specs.Prelude.{◌≡◌, ◌≢◌, None, IsSome, ◌<◌, ◌≤◌, ◌==◌};
+ghost use Rattle.sched_law.specs.declared.job.TheConstants.{NEVER as LAST};
+ghost use Rattle.sched_threads.specs.Calls.{OnBoards, Timed, Untimed};
+ghost use Rattle.sched_threads.specs.EndCalls.{IsGivenBack};
+ghost use Rattle.sched_threads.specs.Turns.{IsCloseAnswer, IsSettled};
+ghost use Rattle.cubejobs_sched.specs.Answers.{close_answer, refusal, rest_answer, settle_answer};
+ghost use Rattle.cubejobs_sched.specs.Handle.{owner_of};
+ghost use Rattle.cubejobs_sched.specs.Turns.{MayMake};
+
+use crate::answer::SchedAnswer;
+use crate::answers::refused;
+use crate::closing::{close, rest, settle};
+use crate::codes::{NOT_OPEN, OUT_OF_RANGE};
+use crate::handle::Handle;
+use crate::places::threads_at;
+use sched_board::NEVER;
+
+/// Lets no job come any more. In mode 0 those that wait still run, and in mode 1 they do not. `now`
+/// is the time, in the caller's unit.
+///
+/// `OUT_OF_RANGE`: there is no such mode. `CLOSED`: no job may come already.
+#[unsafe(no_mangle)]
+pub extern "C" fn cubejobs_sched_try_close(sched: &mut Handle, mode: u32, now: u64) -> SchedAnswer
+    ensures not_open { owner_of sched.old ≡ None → result ≡ refusal NOT_OPEN }
+    ensures only { result.code ≡ NOT_OPEN → owner_of sched.old ≡ None }
+    ensures out_of_range { IsSome (owner_of sched.old) → now ≡ LAST → result ≡ refusal
+        OUT_OF_RANGE }
+    ensures bad_mode { IsSome (owner_of sched.old) → now ≢ LAST → 1 < mode → result ≡ refusal
+        OUT_OF_RANGE }
+    ensures made { IsSome (owner_of sched.old) → now ≢ LAST → mode ≤ 1 → MayMake sched.new (λ
+        answer. Timed now (λ time. OnBoards (IsCloseAnswer time (mode == 0) answer))) close_answer
+        result }
+    ensures kept { owner_of sched.new ≡ owner_of sched.old }
+{
+    if !sched.is_open() {
+        return refused(NOT_OPEN);
+    }
+    if now == NEVER {
+        return refused(OUT_OF_RANGE);
+    }
+    if mode > 1 {
+        return refused(OUT_OF_RANGE);
+    }
+    let (answer, receipt) = close(threads_at(sched.at.get_mut()), mode == 0, now);
+    sched.keep(receipt);
+    answer
+}
+
+/// Gives back the first waiting job in slots from `after` on. Answers its slot as `worker`.
+///
+/// `NO_JOB`: none waits there. `WRONG_STATE`: jobs may still come.
+#[unsafe(no_mangle)]
+pub extern "C" fn cubejobs_sched_try_rest(sched: &mut Handle, after: u32) -> SchedAnswer
+    ensures not_open { owner_of sched.old ≡ None → result ≡ refusal NOT_OPEN }
+    ensures only { result.code ≡ NOT_OPEN → owner_of sched.old ≡ None }
+    ensures made { IsSome (owner_of sched.old) → MayMake sched.new (λ answer. Untimed (OnBoards
+        (IsGivenBack after answer))) rest_answer result }
+    ensures kept { owner_of sched.new ≡ owner_of sched.old }
+{
+    if !sched.is_open() {
+        return refused(NOT_OPEN);
+    }
+    let (answer, receipt) = rest(threads_at(sched.at.get_mut()), after);
+    sched.keep(receipt);
+    answer
+}
+
+/// Starts jobs for workers that wait. `now` is the time, in the caller's unit.
+#[unsafe(no_mangle)]
+pub extern "C" fn cubejobs_sched_try_settle(sched: &mut Handle, now: u64) -> SchedAnswer
+    ensures not_open { owner_of sched.old ≡ None → result ≡ refusal NOT_OPEN }
+    ensures only { result.code ≡ NOT_OPEN → owner_of sched.old ≡ None }
+    ensures out_of_range { IsSome (owner_of sched.old) → now ≡ LAST → result ≡ refusal
+        OUT_OF_RANGE }
+    ensures made { IsSome (owner_of sched.old) → now ≢ LAST → MayMake sched.new (λ answer. Timed now
+        (λ time. OnBoards (IsSettled time answer))) settle_answer result }
+    ensures kept { owner_of sched.new ≡ owner_of sched.old }
+{
+    if !sched.is_open() {
+        return refused(NOT_OPEN);
+    }
+    if now == NEVER {
+        return refused(OUT_OF_RANGE);
+    }
+    let (answer, receipt) = settle(threads_at(sched.at.get_mut()), now);
+    sched.keep(receipt);
+    answer
+}

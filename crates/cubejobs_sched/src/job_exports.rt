@@ -1,0 +1,76 @@
+//! The functions of the library that submit and cancel a job, under the names that C declares.
+ghost use Rattle.std.specs.Prelude.{◌≡◌, ◌≢◌, None, IsSome};
+ghost use Rattle.sched_law.specs.declared.job.TheConstants.{NEVER as LAST};
+ghost use Rattle.sched_threads.specs.Calls.{OnBoards, Timed};
+ghost use Rattle.sched_threads.specs.Turns.{IsCancelAnswer, IsSubmitAnswer};
+ghost use Rattle.cubejobs_sched.specs.Answers.{cancel_answer, refusal, submit_answer};
+ghost use Rattle.cubejobs_sched.specs.Handle.{owner_of};
+ghost use Rattle.cubejobs_sched.specs.Turns.{MayMake};
+
+use crate::answer::SchedAnswer;
+use crate::answers::refused;
+use crate::codes::{NOT_OPEN, OUT_OF_RANGE};
+use crate::handle::Handle;
+use crate::jobs::{cancel, submit};
+use crate::places::threads_at;
+use sched_board::NEVER;
+use sched_threads::JobRequest;
+
+/// Submits a job, and starts jobs for workers that wait. Answers its ticket. `now` is the time, in
+/// the caller's unit.
+///
+/// `OUT_OF_RANGE`: the machine cannot have such a job. `CLOSED`: no job may come any more. `FULL`:
+/// there is no place for it.
+#[unsafe(no_mangle)]
+pub extern "C" fn cubejobs_sched_try_submit(
+    sched: &mut Handle,
+    request: JobRequest,
+    now: u64,
+) -> SchedAnswer
+    ensures not_open { owner_of sched.old ≡ None → result ≡ refusal NOT_OPEN }
+    ensures only { result.code ≡ NOT_OPEN → owner_of sched.old ≡ None }
+    ensures out_of_range { IsSome (owner_of sched.old) → now ≡ LAST → result ≡ refusal
+        OUT_OF_RANGE }
+    ensures made { IsSome (owner_of sched.old) → now ≢ LAST → MayMake sched.new (λ answer. Timed now
+        (λ time. OnBoards (IsSubmitAnswer time request answer))) submit_answer result }
+    ensures kept { owner_of sched.new ≡ owner_of sched.old }
+{
+    if !sched.is_open() {
+        return refused(NOT_OPEN);
+    }
+    if now == NEVER {
+        return refused(OUT_OF_RANGE);
+    }
+    let (answer, receipt) = submit(threads_at(sched.at.get_mut()), request, now);
+    sched.keep(receipt);
+    answer
+}
+
+/// Cancels a job that waits, and starts jobs for workers that wait. Answers its payload. `now` is
+/// the time, in the caller's unit.
+///
+/// `NO_JOB`: the ticket is of no job, or of one that is over. `WRONG_STATE`: the job runs.
+#[unsafe(no_mangle)]
+pub extern "C" fn cubejobs_sched_try_cancel(
+    sched: &mut Handle,
+    ticket: u64,
+    now: u64,
+) -> SchedAnswer
+    ensures not_open { owner_of sched.old ≡ None → result ≡ refusal NOT_OPEN }
+    ensures only { result.code ≡ NOT_OPEN → owner_of sched.old ≡ None }
+    ensures out_of_range { IsSome (owner_of sched.old) → now ≡ LAST → result ≡ refusal
+        OUT_OF_RANGE }
+    ensures made { IsSome (owner_of sched.old) → now ≢ LAST → MayMake sched.new (λ answer. Timed now
+        (λ time. OnBoards (IsCancelAnswer time ticket answer))) (cancel_answer ticket) result }
+    ensures kept { owner_of sched.new ≡ owner_of sched.old }
+{
+    if !sched.is_open() {
+        return refused(NOT_OPEN);
+    }
+    if now == NEVER {
+        return refused(OUT_OF_RANGE);
+    }
+    let (answer, receipt) = cancel(threads_at(sched.at.get_mut()), ticket, now);
+    sched.keep(receipt);
+    answer
+}

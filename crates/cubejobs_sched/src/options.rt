@@ -1,0 +1,37 @@
+//! What a scheduler is opened for.
+
+ghost use Rattle.std.specs.Prelude.{◌↔◌, IsTrue};
+ghost use Rattle.cubejobs_sched.specs.Options.{IsInRange};
+
+use cube_shape::MAX_BITMAP_DIM;
+use sched_board::{MAX_SLOTS, MAX_WORKERS};
+
+/// What a scheduler is opened for.
+#[repr(C)]
+#[derive(Clone, Copy, Debug)]
+pub struct SchedOptions {
+    /// The machine has `2^dim` processors.
+    pub dim: u32,
+    /// How many jobs may wait and run at once.
+    pub jobs: u32,
+    /// How many times the machine passes a job before a block is reserved for it in any case.
+    pub patience: u32,
+    /// How many workers there are.
+    pub workers: u32,
+}
+
+// Returns whether all options are in range.
+pub(crate) fn are_in_range(options: SchedOptions) -> bool
+    ensures { IsTrue result ↔ IsInRange options }
+{
+    if options.dim > MAX_BITMAP_DIM {
+        return false;
+    }
+    if options.jobs == 0 || options.jobs as usize > MAX_SLOTS {
+        return false;
+    }
+    if options.workers == 0 || options.workers > MAX_WORKERS {
+        return false;
+    }
+    true
+}

@@ -1,4 +1,0 @@
-pub mod TurnLemmas
-pub mod KeepLemmas
-pub mod EndLemmas
-pub mod GainLemmas

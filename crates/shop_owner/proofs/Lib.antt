@@ -1,3 +1,0 @@
-pub mod CrossLemmas
-mod OpenLemmas
-mod ReturnLemmas
