@@ -2,7 +2,7 @@
 #include <sched.h>
 #include <stdio.h>
 
-#include "cubejobs_dispatch.h"
+#include "cubejobs_lanes.h"
 
 enum { THREADS = 4, JOBS = 100000 };
 
@@ -15,7 +15,7 @@ static unsigned numbers[THREADS] = {0, 1, 2, 3};
 static void *produce(void *number) {
     unsigned mine = *(unsigned *)number;
     for (uint64_t i = 1; i <= JOBS; i++)
-        while (cubejobs_lanes_submit(&lane[mine], i, 0).code == CUBEJOBS_DISPATCH_FULL) sched_yield();
+        while (cubejobs_lanes_submit(&lane[mine], i, 0).code == CUBEJOBS_LANES_FULL) sched_yield();
     cubejobs_lanes_free_lane(&lane[mine]);
     return NULL;
 }
@@ -24,8 +24,8 @@ static void *consume(void *number) {
     unsigned mine = *(unsigned *)number;
     for (;;) {
         struct cubejobs_job_answer job = cubejobs_lanes_take_any(&worker[mine], mine);
-        if (job.code == CUBEJOBS_DISPATCH_ENDED) return NULL;
-        if (job.code == CUBEJOBS_DISPATCH_DONE)
+        if (job.code == CUBEJOBS_LANES_ENDED) return NULL;
+        if (job.code == CUBEJOBS_LANES_DONE)
             sums[mine] += job.payload;
         else
             sched_yield();

@@ -1,29 +1,28 @@
-/* Owners for C++11 and later. When its owner ends, a block is released, a job is done, and a handle
- * comes back.
+/* Owners for C++11 and later. When its owner ends, a block is released, and a handle comes back.
  *
  * cubejobs::machine is a handle of a machine of cubejobs_regions.h, for one thread.
  * cubejobs::first_fit is a machine of cubejobs_fit.h, for one thread at a time, in memory of its own
  * or of yours.
  * cubejobs::planner is a planner of cubejobs_plan.h, for one thread at a time.
- * cubejobs::lanes and cubejobs::dispatch own those of cubejobs_dispatch.h. They give out a lane for
- * each producer and a worker for each consumer. cubejobs::running is a job on its block.
+ * cubejobs::lanes owns lanes of cubejobs_lanes.h. It gives out a lane for each producer and a worker
+ * for each consumer.
  *
  * All owners move, and none is copied. One that was moved from is empty: its calls answer NOT_OPEN,
  * and BAD_SIZE that of a first_fit. A machine lasts as long as a handle of it or a block. Lanes
- * last as long as a lane, a worker or a running job. A planner ends with its owner. The duties are
+ * last as long as their owner, a lane or a worker. A planner ends with its owner. The duties are
  * those of the C headers. These types keep all that is about handles, except that one thread at a
- * time uses a machine's handle, a planner, a lane or a worker. Blocks and running jobs use the
- * handle with which they were taken, until machine::adopt gives a block another.
+ * time uses a machine's handle, a planner, a lane or a worker. Blocks use the handle with which they
+ * were taken, until machine::adopt gives a block another.
  *
  * An owner that cannot be opened throws a cubejobs::error. Without exceptions (-fno-exceptions) it
  * is empty, and code() has the reason. Where memory of C++ runs out, the program ends then.
  *
- * The waits of a machine are those of cubejobs_wait.h: take_or_wait, take_for, take_until and
- * stop_waits. They sleep by a mutex and a condition variable, in each standard.
+ * The waits of a machine and of a lane are those of cubejobs_wait.h, which says why no wake-up is
+ * lost: take_or_wait, take_for, take_until and stop_waits, and submit_or_wait, submit_for and
+ * submit_until. They sleep by a mutex and a condition variable, in each standard.
  *
- * In C++20 a worker can sleep: next() waits for a job, as cubejobs_wait.h does in C, and says there
- * why no wake-up is lost. Before C++20 there is try_next() alone. Files of a program may use the
- * same lanes only if all or none of them are compiled as C++20.
+ * In C++20 a worker can sleep: next() waits for a job. Before C++20 there is try_next() alone. Files
+ * of a program may use the same lanes only if all or none of them are compiled as C++20.
  */
 #ifndef CUBEJOBS_HPP
 #define CUBEJOBS_HPP
@@ -35,34 +34,19 @@
 #include <cstdint>
 #include <memory>
 #include <mutex>
-#include <stdexcept>
 #include <thread>
 #include <utility>
 #include <vector>
 
-#include "cubejobs_dispatch.h"
+#include "cubejobs_error.hpp"
 #include "cubejobs_fit.h"
+#include "cubejobs_lanes.h"
 #include "cubejobs_plan.h"
 #include "cubejobs_regions.h"
 
 namespace cubejobs {
 
-#if defined(__cpp_exceptions) || defined(__EXCEPTIONS)
-#define CUBEJOBS_THROWS 1
-/* The error of a handle that was not opened, or of lanes that cannot end, with its code. */
-struct error : std::runtime_error {
-    explicit error(std::uint32_t number) : std::runtime_error(cubejobs_code_text(number)), code(number) {}
-    std::uint32_t code;
-};
-
-inline void check(std::uint32_t code) {
-    if (code) throw error(code);
-}
-#else
-inline void check(std::uint32_t) {}
-#endif
-
-/* A block of a machine of type M, a job on its block, or the code of the call that was refused. */
+/* A block of a machine of type M, or the code of the call that was refused. */
 template <class M> class owned {
   public:
     owned() = default;
@@ -95,10 +79,22 @@ template <class M> class owned {
     typename M::answer taken = M::nothing();
 };
 
-/* The event count of a machine, as that of cubejobs_wait.h. */
+/* An event count, as that of cubejobs_wait.h. */
 class event {
   public:
     using clock = std::chrono::steady_clock;
+    /* Passes a call the deadline after a time, or null if the clock does not reach it. */
+    template <class Rep, class Period, class Call>
+    static auto until(const std::chrono::duration<Rep, Period> &time, Call call)
+        -> decltype(call(static_cast<const clock::time_point *>(nullptr))) {
+        using seconds = std::chrono::duration<double>;
+        const clock::time_point now = clock::now();
+        if (seconds(time) >= seconds(clock::time_point::max() - now)) return call(nullptr);
+        const clock::time_point deadline = now + std::chrono::duration_cast<clock::duration>(time);
+        return call(&deadline);
+    }
+    /* Returns the key of now. Read it before the call that may be refused. */
+    std::uint32_t key() { return state.fetch_or(1) | 1; }
     void raise() {
         std::uint32_t now = state;
         if (now % 2 == 0 || !state.compare_exchange_strong(now, now + 1)) return;
@@ -153,10 +149,7 @@ class machine {
     block take_until(std::uint32_t k, event::clock::time_point deadline) { return waited(k, &deadline); }
     /* The same for at most this time. A time that the clock does not reach is no deadline. */
     template <class Rep, class Period> block take_for(std::uint32_t k, const std::chrono::duration<Rep, Period> &time) {
-        using seconds = std::chrono::duration<double>;
-        const event::clock::time_point now = event::clock::now();
-        if (seconds(time) >= seconds(event::clock::time_point::max() - now)) return take_or_wait(k);
-        return take_until(k, now + std::chrono::duration_cast<event::clock::duration>(time));
+        return event::until(time, [this, k](const event::clock::time_point *deadline) { return waited(k, deadline); });
     }
     /* Ends all waits of the machine with STOPPED: those of now and of later, of all its handles. */
     void stop_waits() {
@@ -236,7 +229,7 @@ class machine {
     /* Makes an exact take as the only waiter that does, unless the waits were stopped. */
     block in_turn(std::uint32_t k, std::uint32_t &key) {
         std::lock_guard<std::mutex> locked(handle->waits->turn);
-        key = handle->waits->state.fetch_or(1) | 1;
+        key = handle->waits->key();
         return handle->waits->is_stopped ? refused(CUBEJOBS_REGIONS_STOPPED) : filled(cubejobs_regions_take_exact, k);
     }
     /* As cubejobs_regions_take_until does, which says why no wake-up is lost. */
@@ -373,8 +366,7 @@ class first_fit {
 #ifdef __cpp_lib_atomic_wait
 #define CUBEJOBS_SLEEPS 1
 inline namespace sleeping {
-/* Where the threads of workers sleep: one word for each worker, and an event count for the workers
- * whose job has no block. */
+/* Where threads sleep: workers each on a word, and producers on `room` while their lane is full. */
 class parking {
   public:
     explicit parking(std::uint32_t workers) : words(workers) {}
@@ -390,283 +382,219 @@ class parking {
         words[worker].wait(0);
         words[worker] = 0;
     }
-    std::uint32_t key() { return room.fetch_or(1) | 1; }
-    void raise() {
-        std::uint32_t state = room;
-        if (state % 2 && room.compare_exchange_strong(state, state + 1)) room.notify_all();
+    /* Wakes a worker for the last job of a lane, if one is to wake. */
+    void wake(cubejobs_lane *lane) {
+        cubejobs_wake_answer wake = cubejobs_lanes_wake(lane);
+        while (wake.code == CUBEJOBS_LANES_AGAIN) wake = cubejobs_lanes_wake(lane);
+        if (wake.code == CUBEJOBS_LANES_DONE) unpark(wake.worker);
     }
-    template <class Lane> void wake(Lane *lane);
+    event room{};
+
+  private:
     std::vector<std::atomic<std::uint32_t>> words;
-    std::atomic<std::uint32_t> room{0};
-    std::atomic<bool> is_stopped{false};
-    std::mutex turn{};
 };
 #else
 inline namespace polling {
+/* Where producers sleep while their lane is full. Workers do not sleep. */
 class parking {
   public:
     explicit parking(std::uint32_t) {}
     void unpark_all() {}
-    void raise() {}
-    template <class Lane> void wake(Lane *) {}
+    void wake(cubejobs_lane *) {}
+    event room{};
 };
 #endif
 
-/* The calls for C, each by the type of its handle. */
-namespace calls {
-inline std::uint32_t get(cubejobs_lanes *owner, cubejobs_lane *it) { return cubejobs_lanes_lane(owner, it); }
-inline std::uint32_t get(cubejobs_lanes *owner, cubejobs_worker *it) { return cubejobs_lanes_worker(owner, it); }
-inline std::uint32_t get(cubejobs_dispatch *owner, cubejobs_shop_lane *it) { return cubejobs_dispatch_lane(owner, it); }
-inline std::uint32_t get(cubejobs_dispatch *owner, cubejobs_shop_worker *it) {
-    return cubejobs_dispatch_worker(owner, it);
-}
-inline void give(cubejobs_lane *it) { cubejobs_lanes_free_lane(it); }
-inline void give(cubejobs_shared_lane *it) { cubejobs_lanes_free_shared(it); }
-inline void give(cubejobs_worker *it) { cubejobs_lanes_free_worker(it); }
-inline void give(cubejobs_shop_lane *it) { cubejobs_dispatch_free_lane(it); }
-inline void give(cubejobs_shop_worker *it) {
-    cubejobs_dispatch_give_back(it);
-    cubejobs_dispatch_free_worker(it);
-}
-inline cubejobs_submit_answer submit(cubejobs_lane *it, std::uint64_t payload, std::uint32_t dim) {
-    return cubejobs_lanes_submit(it, payload, dim);
-}
-inline cubejobs_submit_answer submit(cubejobs_shared_lane *it, std::uint64_t payload, std::uint32_t dim) {
-    return cubejobs_lanes_submit_shared(it, payload, dim);
-}
-inline cubejobs_submit_answer submit(cubejobs_shop_lane *it, std::uint64_t payload, std::uint32_t dim) {
-    return cubejobs_dispatch_submit(it, payload, dim);
-}
-inline cubejobs_close_answer close(cubejobs_lanes *it) { return cubejobs_lanes_close(it); }
-inline cubejobs_close_answer close(cubejobs_dispatch *it) { return cubejobs_dispatch_close(it); }
-inline cubejobs_finish_answer finish(cubejobs_lanes *it) { return cubejobs_lanes_finish(it); }
-inline cubejobs_finish_answer finish(cubejobs_dispatch *it) { return cubejobs_dispatch_finish(it); }
-inline cubejobs_job_answer rest(cubejobs_lanes *it) { return cubejobs_lanes_rest(it); }
-inline cubejobs_job_answer rest(cubejobs_dispatch *it) { return cubejobs_dispatch_rest(it); }
-inline void end(cubejobs_lanes *it) { cubejobs_lanes_free(it); }
-inline void end(cubejobs_dispatch *it) { cubejobs_dispatch_free(it); }
-#ifdef CUBEJOBS_SLEEPS
-inline cubejobs_wake_answer wake(cubejobs_lane *it) { return cubejobs_lanes_wake(it); }
-inline cubejobs_wake_answer wake(cubejobs_shared_lane *it) { return cubejobs_lanes_wake_shared(it); }
-inline cubejobs_wake_answer wake(cubejobs_shop_lane *it) { return cubejobs_dispatch_wake(it); }
-inline std::uint32_t number(cubejobs_worker *it) { return cubejobs_lanes_worker_number(it).number; }
-inline std::uint32_t number(cubejobs_shop_worker *it) { return cubejobs_dispatch_worker_number(it).number; }
-inline std::uint32_t awake(cubejobs_worker *it) { return cubejobs_lanes_awake(it); }
-inline std::uint32_t awake(cubejobs_shop_worker *it) { return cubejobs_dispatch_awake(it); }
-#endif
-}
-
-#ifdef CUBEJOBS_SLEEPS
-template <class Lane> void parking::wake(Lane *lane) {
-    cubejobs_wake_answer wake = calls::wake(lane);
-    while (wake.code == CUBEJOBS_DISPATCH_AGAIN || wake.code == CUBEJOBS_DISPATCH_BUSY) wake = calls::wake(lane);
-    if (wake.code == CUBEJOBS_DISPATCH_DONE) unpark(wake.worker);
-}
-#endif
-
 /* What an owner of lanes, its lanes and its workers share. The last of them ends it. */
-template <class Owner> struct common : public parking {
+class common : public parking {
+  public:
     explicit common(std::uint32_t workers) : parking(workers) {}
     common(const common &) = delete;
     common &operator=(const common &) = delete;
     ~common() {
-        calls::finish(&owner);
-        while (calls::rest(&owner).code == CUBEJOBS_DISPATCH_DONE) {}
-        calls::end(&owner);
+        cubejobs_lanes_finish(&owner);
+        while (cubejobs_lanes_rest(&owner).code == CUBEJOBS_LANES_DONE) {}
+        cubejobs_lanes_free(&owner);
     }
-    Owner owner = {0, nullptr};
+    cubejobs_lanes owner = {0, nullptr};
 };
 
-/* A handle in cache lines of its own. It comes back when this ends. */
-template <class Handle, class Owner> struct handle_of {
-    explicit handle_of(std::shared_ptr<common<Owner>> common) : all(std::move(common)) {}
+/* A handle of a lane or a worker, in cache lines of its own. It comes back when this ends. */
+template <class Handle> class handle_of {
+  public:
+    explicit handle_of(std::shared_ptr<common> lanes) : all(std::move(lanes)) {}
     handle_of(const handle_of &) = delete;
     handle_of &operator=(const handle_of &) = delete;
-    ~handle_of() {
-        calls::give(&at);
-        all->raise();
+    ~handle_of() { give(&at); }
+    /* Returns the handle that `get` fills, or null. */
+    static std::unique_ptr<handle_of> got(const std::shared_ptr<common> &lanes,
+                                          cubejobs_lanes_code (*get)(cubejobs_lanes *, Handle *)) {
+        std::unique_ptr<handle_of> made(lanes ? new handle_of(lanes) : nullptr);
+        const std::uint32_t code = made ? get(&lanes->owner, &made->at) : CUBEJOBS_LANES_NOT_OPEN;
+        if (code) made.reset();
+        check(code);
+        return made;
     }
     Handle at = {0, nullptr};
     unsigned char apart[112] = {};
-    std::shared_ptr<common<Owner>> all;
-#ifdef CUBEJOBS_SLEEPS
-    /* Sleeps until the worker has its token, if it lies down. Returns whether to look again. */
-    bool looks_again(std::uint32_t code) {
-        if (code == CUBEJOBS_DISPATCH_PARK)
-            while (calls::awake(&at) == CUBEJOBS_DISPATCH_PARK) all->park(calls::number(&at));
-        if (code == CUBEJOBS_DISPATCH_AGAIN) std::this_thread::yield();
-        return code == CUBEJOBS_DISPATCH_PARK || code == CUBEJOBS_DISPATCH_AGAIN;
-    }
-#endif
+    std::shared_ptr<common> all;
+
+  private:
+    static void give(cubejobs_lane *it) { cubejobs_lanes_free_lane(it); }
+    static void give(cubejobs_worker *it) { cubejobs_lanes_free_worker(it); }
 };
 
-/* A lane of a producer. Submit answers as the call for C does, and wakes a worker for the job. */
-template <class Handle, class Owner> class lane_of {
+/* A lane of a producer. Its calls answer as those for C do, and wake a worker for the job. */
+class lane {
   public:
     /* Returns whether it has a handle: not if it was moved from, or could not be given out. */
     explicit operator bool() const { return mine != nullptr; }
     cubejobs_submit_answer submit(std::uint64_t payload, std::uint32_t dim) {
-        if (!mine) return {CUBEJOBS_DISPATCH_NOT_OPEN, 0};
-        cubejobs_submit_answer answer = calls::submit(&mine->at, payload, dim);
-        if (answer.code == CUBEJOBS_DISPATCH_DONE) mine->all->wake(&mine->at);
+        if (!mine) return {CUBEJOBS_LANES_NOT_OPEN, 0};
+        const cubejobs_submit_answer answer = cubejobs_lanes_submit(&mine->at, payload, dim);
+        if (answer.code == CUBEJOBS_LANES_DONE) mine->all->wake(&mine->at);
         return answer;
     }
-
-  private:
-    template <class, class, class> friend class owner_of;
-    friend class shared_lane;
-    explicit lane_of(std::unique_ptr<handle_of<Handle, Owner>> handle) : mine(std::move(handle)) {}
-    std::unique_ptr<handle_of<Handle, Owner>> mine;
-};
-using lane = lane_of<cubejobs_lane, cubejobs_lanes>;
-using shop_lane = lane_of<cubejobs_shop_lane, cubejobs_dispatch>;
-
-/* A lane that producers share, each with an owner of its own. */
-class shared_lane : public lane_of<cubejobs_shared_lane, cubejobs_lanes> {
-  public:
-    explicit shared_lane(lane &&of_one) : lane_of(nullptr) {
-        if (of_one.mine) mine.reset(new place(of_one.mine->all));
-        opened(mine ? cubejobs_lanes_share(&of_one.mine->at, &mine->at) : CUBEJOBS_DISPATCH_NOT_OPEN);
+    /* Submits a job, and sleeps while the lane is full. The code is not FULL. */
+    cubejobs_submit_answer submit_or_wait(std::uint64_t payload, std::uint32_t dim) {
+        return waited(payload, dim, nullptr);
     }
-    /* Returns an owner for another thread. */
-    shared_lane share() {
-        shared_lane other;
-        if (mine) other.mine.reset(new place(mine->all));
-        other.opened(mine ? cubejobs_lanes_share_again(&mine->at, &other.mine->at) : CUBEJOBS_DISPATCH_NOT_OPEN);
-        return other;
+    /* The same until the time has come. Then it tries once more, and the code is TIMED_OUT. */
+    cubejobs_submit_answer submit_until(std::uint64_t payload, std::uint32_t dim, event::clock::time_point deadline) {
+        return waited(payload, dim, &deadline);
+    }
+    /* The same for at most this time. A time that the clock does not reach is no deadline. */
+    template <class Rep, class Period>
+    cubejobs_submit_answer submit_for(std::uint64_t payload, std::uint32_t dim,
+                                      const std::chrono::duration<Rep, Period> &time) {
+        return event::until(time, [this, payload, dim](const event::clock::time_point *deadline) {
+            return waited(payload, dim, deadline);
+        });
     }
 
   private:
-    using place = handle_of<cubejobs_shared_lane, cubejobs_lanes>;
-    shared_lane() : lane_of(nullptr) {}
-    void opened(cubejobs_dispatch_code code) {
-        if (code) mine.reset();
-        check(code);
-    }
-};
-
-/* A worker of lanes. Its calls answer as those for C do. */
-class worker {
-  public:
-    /* Takes a job from lane `from` on, if there is one. */
-    cubejobs_job_answer try_next(std::uint32_t from = 0) {
-        return mine ? cubejobs_lanes_take_any(&mine->at, from) : none();
-    }
-    /* Returns whether it has a handle: not if it was moved from, or could not be given out. */
-    explicit operator bool() const { return mine != nullptr; }
-#ifdef CUBEJOBS_SLEEPS
-    /* Takes a job, and sleeps until it can. The code is DONE, ENDED or BAD_LANE. */
-    cubejobs_find_answer next(std::uint32_t from = 0) {
-        if (!mine) return {CUBEJOBS_DISPATCH_NOT_OPEN, 0, 0, CUBEJOBS_DISPATCH_NO_WORKER, 0, 0, 0};
-        for (;;) {
-            cubejobs_find_answer answer = cubejobs_lanes_find(&mine->at, from);
-            mine->all->unpark(answer.woken);
-            if (!mine->looks_again(answer.code)) return answer;
+    friend class lanes;
+    using place = handle_of<cubejobs_lane>;
+    explicit lane(std::unique_ptr<place> handle) : mine(std::move(handle)) {}
+    /* As cubejobs_lanes_submit_until does. */
+    cubejobs_submit_answer waited(std::uint64_t payload, std::uint32_t dim, const event::clock::time_point *deadline) {
+        cubejobs_submit_answer answer = submit(payload, dim);
+        bool is_late = false;
+        while (answer.code == CUBEJOBS_LANES_FULL) {
+            const std::uint32_t key = mine->all->room.key();
+            answer = submit(payload, dim);
+            if (answer.code != CUBEJOBS_LANES_FULL) break;
+            if (is_late) answer.code = CUBEJOBS_LANES_TIMED_OUT;
+            else is_late = mine->all->room.wait(key, deadline);
         }
+        return answer;
     }
-#endif
-
-  private:
-    template <class, class, class> friend class owner_of;
-    using place = handle_of<cubejobs_worker, cubejobs_lanes>;
-    static cubejobs_job_answer none() { return {CUBEJOBS_DISPATCH_NOT_OPEN, 0, 0, 0, 0, 0}; }
-    explicit worker(std::unique_ptr<place> handle) : mine(std::move(handle)) {}
     std::unique_ptr<place> mine;
 };
 
-class running;
-
-/* A worker of a dispatcher. One that ends drops the job that it keeps: give it back before. */
-class shop_worker {
+/* A worker of lanes. Its calls answer as those for C do, and wake producers whose lanes were full. */
+class worker {
   public:
-    shop_worker(shop_worker &&) = default;
-    shop_worker &operator=(shop_worker &&) = default;
-    /* Takes the next job with its block, if it can. */
-    running try_next();
-#ifdef CUBEJOBS_SLEEPS
-    /* Takes the next job with its block, and sleeps until it can. Otherwise the code is ENDED or
-     * RUNS_JOB, or after a stop NO_REGION if no block was found for the job that it keeps. */
-    running next();
-#endif
-    /* Gives back the job that the worker keeps, if it keeps one. */
-    cubejobs_work_answer give_back() {
-        cubejobs_work_answer given = cubejobs_dispatch_give_back(&mine->at);
-        mine->all->raise();
-        return given;
+    /* Returns whether it has a handle: not if it was moved from, or could not be given out. */
+    explicit operator bool() const { return mine != nullptr; }
+    /* Takes a job from lane `from` on, if there is one. */
+    cubejobs_job_answer try_next(std::uint32_t from = 0) {
+        if (!mine) return {CUBEJOBS_LANES_NOT_OPEN, 0, 0, 0, 0, 0};
+        const cubejobs_job_answer answer = cubejobs_lanes_take_any(&mine->at, from);
+        if (answer.code == CUBEJOBS_LANES_DONE) mine->all->room.raise();
+        return answer;
     }
+#ifdef CUBEJOBS_SLEEPS
+    /* Takes a job, and sleeps until it can. The code is DONE, ENDED or BAD_LANE. */
+    cubejobs_find_answer next(std::uint32_t from = 0) {
+        if (!mine) return {CUBEJOBS_LANES_NOT_OPEN, 0, 0, CUBEJOBS_LANES_NO_WORKER, 0, 0, 0};
+        for (;;) {
+            const cubejobs_find_answer answer = cubejobs_lanes_find(&mine->at, from);
+            mine->all->unpark(answer.woken);
+            if (answer.code == CUBEJOBS_LANES_DONE) mine->all->room.raise();
+            if (!looks_again(answer.code)) return answer;
+        }
+    }
+#endif
 
   private:
-    template <class, class, class> friend class owner_of;
-    friend class owned<shop_worker>;
-    friend running;
-    using shared = handle_of<cubejobs_shop_worker, cubejobs_dispatch>;
-    struct place {};
-    using answer = cubejobs_work_answer;
-    static answer nothing() {
-        answer none = {};
-        none.code = CUBEJOBS_DISPATCH_NOTHING_RUN;
-        return none;
-    }
-    static void release(shared &worker, place, answer) {
-        cubejobs_dispatch_done(&worker.at);
-        worker.all->raise();
-    }
-    explicit shop_worker(std::shared_ptr<shared> handle) : mine(std::move(handle)) {}
-    running filled(answer got);
-    std::shared_ptr<shared> mine;
-};
-
-/* A job that runs on its block, or the code of the call that gave none. When this ends, or by
- * release(), the job is done and its block is released. */
-class running : public owned<shop_worker> {
-  public:
-    std::uint32_t lane() const { return taken.lane; }
-    std::uint64_t seq() const { return taken.seq; }
-    std::uint64_t payload() const { return taken.payload; }
-};
-
-inline running shop_worker::filled(answer got) {
-    running made;
-    made.taken = got;
-    if (got.code == CUBEJOBS_DISPATCH_DONE) made.handle = mine;
-    return made;
-}
-
-inline running shop_worker::try_next() {
-    answer got = cubejobs_dispatch_next(&mine->at);
-    if (got.code != CUBEJOBS_DISPATCH_EMPTY) mine->all->raise();
-    return filled(got);
-}
-
+    friend class lanes;
+    using place = handle_of<cubejobs_worker>;
+    explicit worker(std::unique_ptr<place> handle) : mine(std::move(handle)) {}
 #ifdef CUBEJOBS_SLEEPS
-/* As cubejobs_dispatch_wait does: the first look raises, and the later ones come one at a time. */
-inline running shop_worker::next() {
-    common<cubejobs_dispatch> &all = *mine->all;
-    for (bool in_turn = false;;) {
-        std::unique_lock<std::mutex> turn(all.turn, std::defer_lock);
-        std::uint32_t key = 0;
-        if (in_turn) {
-            turn.lock();
-            key = all.key();
+    /* Sleeps until the worker has its token, if it lies down. Returns whether to look again. */
+    bool looks_again(std::uint32_t code) {
+        if (code == CUBEJOBS_LANES_PARK)
+            while (cubejobs_lanes_awake(&mine->at) == CUBEJOBS_LANES_PARK)
+                mine->all->park(cubejobs_lanes_worker_number(&mine->at).number);
+        if (code == CUBEJOBS_LANES_AGAIN) std::this_thread::yield();
+        return code == CUBEJOBS_LANES_PARK || code == CUBEJOBS_LANES_AGAIN;
+    }
+#endif
+    std::unique_ptr<place> mine;
+};
+
+/* An owner of lanes with their handles. One thread at a time uses it. When it ends, the lanes are
+ * closed. */
+class lanes {
+  public:
+    lanes(std::uint32_t lane_count, std::uint32_t workers, std::uint64_t capacity)
+        : all(std::make_shared<common>(workers)) {
+        const std::uint32_t code = cubejobs_lanes_open(&all->owner, lane_count, workers, capacity);
+        if (code) {
+            all.reset();
+            reason = code;
         }
-        const auto got = cubejobs_dispatch_find(&mine->at);
-        if (in_turn) turn.unlock();
-        all.unpark(got.woken);
-        bool has_no_block = got.code == CUBEJOBS_DISPATCH_NO_REGION || got.code == CUBEJOBS_DISPATCH_OLDER_JOB;
-        if (got.code == CUBEJOBS_DISPATCH_DONE || (has_no_block && !in_turn)) all.raise();
-        const answer work = {got.code, got.lane, got.dim, got.base, got.seq, got.payload};
-        if (got.code == CUBEJOBS_DISPATCH_NO_REGION && all.is_stopped) return filled(work);
-        if (has_no_block) {
-            if (in_turn) all.room.wait(key);
-            in_turn = true;
-        } else if (!mine->looks_again(got.code)) {
-            return filled(work);
-        } else if (got.code == CUBEJOBS_DISPATCH_PARK) {
-            in_turn = false;
+        check(code);
+    }
+    lanes(lanes &&) = default;
+    lanes &operator=(lanes &&other) noexcept {
+        lanes old(std::move(other));
+        std::swap(all, old.all);
+        std::swap(reason, old.reason);
+        return *this;
+    }
+    ~lanes() { close(); }
+    /* Returns why the lanes are not open: DONE if they are, NOT_OPEN if they were moved from. */
+    std::uint32_t code() const { return all ? std::uint32_t{CUBEJOBS_LANES_DONE} : reason; }
+    /* Return a handle, for one thread. */
+    cubejobs::lane lane() { return cubejobs::lane(handle_of<cubejobs_lane>::got(all, cubejobs_lanes_lane)); }
+    cubejobs::worker worker() { return cubejobs::worker(handle_of<cubejobs_worker>::got(all, cubejobs_lanes_worker)); }
+    /* Closes all lanes, and wakes all that sleep. Workers get the jobs that are left. */
+    cubejobs_close_answer close() {
+        if (!all) return {CUBEJOBS_LANES_NOT_OPEN, 0};
+        const cubejobs_close_answer answer = cubejobs_lanes_close(&all->owner);
+        all->unpark_all();
+        all->room.raise();
+        return answer;
+    }
+    /* Ends closed lanes of which all handles are back, and sets the jobs that are left. If it is not
+     * called, they are dropped with the last handle. Returns the code of cubejobs_lanes_finish. */
+    std::uint32_t finish(std::vector<cubejobs_job_answer> &left) {
+        const std::uint32_t code = all ? cubejobs_lanes_finish(&all->owner).code : CUBEJOBS_LANES_NOT_OPEN;
+        left.clear();
+        if (code) return code;
+        for (;;) {
+            left.push_back(cubejobs_lanes_rest(&all->owner));
+            if (left.back().code == CUBEJOBS_LANES_DONE) continue;
+            left.pop_back();
+            return code;
         }
     }
-}
+#ifdef CUBEJOBS_THROWS
+    /* Does the same, and returns the jobs. */
+    std::vector<cubejobs_job_answer> finish() {
+        std::vector<cubejobs_job_answer> left;
+        check(finish(left));
+        return left;
+    }
 #endif
+
+  private:
+    std::shared_ptr<common> all;
+    std::uint32_t reason = CUBEJOBS_LANES_NOT_OPEN;
+};
+}
 
 /* A planner. Its calls are those of cubejobs_plan.h, with the same answers. */
 class planner {
@@ -717,100 +645,6 @@ class planner {
     cubejobs_plan at = {0, nullptr};
     std::uint32_t reason = CUBEJOBS_PLAN_NOT_OPEN;
 };
-
-/* An owner of lanes with their handles. One thread at a time uses it. When it ends, the lanes are
- * closed. */
-template <class Owner, class Lane, class Worker> class owner_of {
-  public:
-    owner_of(owner_of &&) = default;
-    owner_of &operator=(owner_of &&other) noexcept {
-        if (this != &other && all) close();
-        all = std::move(other.all);
-        return *this;
-    }
-    ~owner_of() {
-        if (all) close();
-    }
-    /* Returns why the lanes are not open: DONE if they are, NOT_OPEN if they were moved from. */
-    std::uint32_t code() const { return all ? std::uint32_t{CUBEJOBS_DISPATCH_DONE} : reason; }
-    Lane lane() { return got<Lane>(); }
-    Worker worker() { return got<Worker>(); }
-    /* Closes all lanes, and wakes all workers. They get the jobs that are left. */
-    cubejobs_close_answer close() {
-        if (!all) return {CUBEJOBS_DISPATCH_NOT_OPEN, 0};
-        cubejobs_close_answer answer = calls::close(&all->owner);
-        all->unpark_all();
-        return answer;
-    }
-    /* Ends closed lanes of which all handles are back, and sets the jobs that are left. If it is not
-     * called, they are dropped with the last handle. Returns the code of cubejobs_lanes_finish. */
-    std::uint32_t finish(std::vector<cubejobs_job_answer> &left) {
-        const std::uint32_t code = all ? calls::finish(&all->owner).code : CUBEJOBS_DISPATCH_NOT_OPEN;
-        left.clear();
-        if (code) return code;
-        for (;;) {
-            left.push_back(calls::rest(&all->owner));
-            if (left.back().code == CUBEJOBS_DISPATCH_DONE) continue;
-            left.pop_back();
-            return code;
-        }
-    }
-#ifdef CUBEJOBS_THROWS
-    /* Does the same, and returns the jobs. */
-    std::vector<cubejobs_job_answer> finish() {
-        std::vector<cubejobs_job_answer> left;
-        check(finish(left));
-        return left;
-    }
-#endif
-
-  protected:
-    explicit owner_of(std::uint32_t workers) : all(std::make_shared<common<Owner>>(workers)) {}
-    void opened(std::uint32_t code) {
-        if (code) all.reset();
-        reason = code ? code : std::uint32_t{CUBEJOBS_DISPATCH_NOT_OPEN};
-        check(code);
-    }
-    std::shared_ptr<common<Owner>> all;
-    std::uint32_t reason = CUBEJOBS_DISPATCH_NOT_OPEN;
-
-  private:
-    template <class Made> Made got() {
-        using place = typename decltype(Made::mine)::element_type;
-        std::unique_ptr<place> handle(all ? new place(all) : nullptr);
-        const std::uint32_t none = CUBEJOBS_DISPATCH_NOT_OPEN;
-        const std::uint32_t code = all ? calls::get(&all->owner, &handle->at) : none;
-        if (code) handle.reset();
-        check(code);
-        return Made(std::move(handle));
-    }
-};
-
-/* Lanes of jobs. */
-class lanes : public owner_of<cubejobs_lanes, lane, worker> {
-  public:
-    lanes(std::uint32_t lane_count, std::uint32_t workers, std::uint64_t capacity) : owner_of(workers) {
-        opened(cubejobs_lanes_open(&all->owner, lane_count, workers, capacity));
-    }
-};
-
-/* A dispatcher with a machine of 2^dim processors. */
-class dispatch : public owner_of<cubejobs_dispatch, shop_lane, shop_worker> {
-  public:
-    dispatch(std::uint32_t dim, std::uint32_t lane_count, std::uint32_t workers, std::uint64_t capacity)
-        : owner_of(workers) {
-        opened(cubejobs_dispatch_open(&all->owner, dim, lane_count, workers, capacity));
-    }
-#ifdef CUBEJOBS_SLEEPS
-    /* Ends all sleep for a block, from now on: see shop_worker::next. Give such a job back, and
-     * close the lanes too. Then soon no worker sleeps. */
-    void stop() {
-        all->is_stopped = true;
-        all->raise();
-    }
-#endif
-};
-}
 
 }
 

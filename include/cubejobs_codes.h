@@ -2,8 +2,8 @@
  *
  * Each header has an enum of the codes of its own calls. They all share one row of numbers: a code
  * that two headers have is the same number in both, and a number has one meaning. Only FULL is two
- * numbers, one of a lane and one of a planner. So one function has the text of each code. The
- * numbers 30, 49, 52 to 54 and 60 are not in use.
+ * numbers, one of a lane and one of a planner or a scheduler. So one function has the text of each
+ * code. The numbers 30, 33 to 40, 52 to 54 and 60 are not in use.
  */
 #ifndef CUBEJOBS_CODES_H
 #define CUBEJOBS_CODES_H
@@ -45,7 +45,7 @@ CUBEJOBS_INLINE const char *cubejobs_code_text(uint32_t code) {
     switch (code) {
     case 0: return "the call succeeded";
     case 1: return "a part of each block of this dimension was in use";
-    case 2: return "no block was found, and one may be free";
+    case 2: return "no block was found and one may be free, or another thread has the turn";
     case 3: return "the dimension is too large, or the block has no halves";
     case 4: return "no block of this dimension begins at this processor";
     case 5: return "a part of the block was in use";
@@ -55,12 +55,12 @@ CUBEJOBS_INLINE const char *cubejobs_code_text(uint32_t code) {
     case 9: return "the two are not the two halves of a block";
     case 10: return "a block is held, and this is the last handle";
     case 11: return "memory ran out";
-    case 12: return "the handle is shut";
+    case 12: return "the handle or the scheduler is shut";
     case 13: return "the handle is of another kind";
-    case 14: return "the handle that is to be opened is open";
+    case 14: return "the handle or the scheduler that is to be opened is open";
     case 15: return "the header is not of the library's version";
     case 16: return "the lane has as many jobs as its capacity";
-    case 17: return "the lanes are closed";
+    case 17: return "closed: no job may be submitted, or none will start";
     case 18: return "the lane has accepted 2^62 jobs";
     case 19: return "there is no job";
     case 20: return "another worker took the job";
@@ -75,22 +75,15 @@ CUBEJOBS_INLINE const char *cubejobs_code_text(uint32_t code) {
     case 29: return "all lanes, or all workers, are out";
     case 31: return "a job is left";
     case 32: return "another call has not ended";
-    case 33: return "no block was found for the job that the worker keeps";
-    case 34: return "no block was taken, since an older job waits for one";
-    case 35: return "the job that the worker keeps is larger than the machine";
-    case 36: return "the worker runs a job";
-    case 37: return "the worker keeps a job";
-    case 38: return "the worker keeps no job";
-    case 39: return "the worker runs no job";
-    case 40: return "another producer is inside the shared lane";
     case 41: return "no thread is to be woken";
     case 42: return "other calls were in the way: call again";
     case 43: return "there is no job: park the thread";
     case 44: return "the worker lies down";
     case 45: return "a number is out of range";
-    case 46: return "the planner has as many jobs as it may have";
-    case 47: return "the job waits or runs, or the block is free or in use";
+    case 46: return "there is no place for another job, or no other worker";
+    case 47: return "what the call is about is in another state: a job, a worker, a block or a scheduler";
     case 48: return "the time is before that of the last call";
+    case 49: return "a worker is out, a job is left, or another call has not ended";
     case 50: return "the memory is too small, null, or not at a multiple of 8";
     case 51: return "the bytes are not a sound image of this dimension";
     case 55: return "no shape of messages has this number";

@@ -1,6 +1,6 @@
-# Defines cubejobs::fit, cubejobs::plan, cubejobs::regions, cubejobs::dispatch and cubejobs::rounds, the shared objects, and
-# the same names with _static for the archives. The components are these names without cubejobs::. The lines above are of the
-# installation: CUBEJOBS_WAY leads from this file to the headers, so all of it may be moved.
+# Defines cubejobs::fit, cubejobs::plan, cubejobs::sched, cubejobs::regions, cubejobs::lanes and cubejobs::rounds, the
+# shared objects, and the same names with _static for the archives. The components are these names without cubejobs::. The
+# lines above are of the installation: CUBEJOBS_WAY leads from this file to the headers, so all of it may be moved.
 find_package(Threads REQUIRED)
 get_filename_component(CUBEJOBS_LIBRARIES "${CMAKE_CURRENT_LIST_DIR}/../.." ABSOLUTE)
 get_filename_component(CUBEJOBS_INCLUDE "${CMAKE_CURRENT_LIST_DIR}/${CUBEJOBS_WAY}" ABSOLUTE)
@@ -14,7 +14,7 @@ if(NOT EXISTS "${CUBEJOBS_INCLUDE}/cubejobs.h")
   set(cubejobs_NOT_FOUND_MESSAGE "The headers of cubejobs are not where ./install put them: ${CUBEJOBS_INCLUDE}")
   return()
 endif()
-foreach(name fit plan regions dispatch rounds)
+foreach(name fit plan sched regions lanes rounds)
   if(NOT TARGET cubejobs::${name})
     add_library(cubejobs::${name} SHARED IMPORTED)
     set_target_properties(cubejobs::${name} PROPERTIES
@@ -36,7 +36,7 @@ foreach(component IN LISTS cubejobs_FIND_COMPONENTS)
     set(cubejobs_${component}_FOUND FALSE)
     if(cubejobs_FIND_REQUIRED_${component})
       set(cubejobs_FOUND FALSE)
-      set(cubejobs_NOT_FOUND_MESSAGE "cubejobs has no component ${component}, but fit, plan, regions, dispatch and rounds")
+      set(cubejobs_NOT_FOUND_MESSAGE "cubejobs has no component ${component}, but fit, plan, sched, regions, lanes and rounds")
     endif()
   endif()
 endforeach()

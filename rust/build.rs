@@ -1,5 +1,5 @@
 //! Links the proved libraries: `libcubejobs_fit.a` and `libcubejobs_rounds.a`, and for the features
-//! `dispatch`, `plan` and `regions` one more each. They are in the folder that `CUBEJOBS_LIB` names,
+//! `lanes`, `plan`, `regions` and `sched` one more each. They are in the folder that `CUBEJOBS_LIB` names,
 //! or else in `lib/`, which has copies of the files of `release/`: `lib/aarch64` those for aarch64.
 //! With the feature `source`, for another target, and for aarch64 without files for it, it links
 //! nothing.
@@ -48,10 +48,11 @@ fn link() -> Result<(), String> {
     let Some(folder) = folder_of(Path::new(&package)) else {
         return Ok(());
     };
-    let dispatch = env::var_os("CARGO_FEATURE_DISPATCH").map(|_| "libcubejobs_dispatch.a");
+    let lanes = env::var_os("CARGO_FEATURE_LANES").map(|_| "libcubejobs_lanes.a");
     let plan = env::var_os("CARGO_FEATURE_PLAN").map(|_| "libcubejobs_plan.a");
     let regions = env::var_os("CARGO_FEATURE_REGIONS").map(|_| "libcubejobs_regions.a");
-    let chosen = [dispatch, plan, regions].into_iter().flatten();
+    let sched = env::var_os("CARGO_FEATURE_SCHED").map(|_| "libcubejobs_sched.a");
+    let chosen = [lanes, plan, regions, sched].into_iter().flatten();
     for name in ["libcubejobs_fit.a", "libcubejobs_rounds.a"].into_iter().chain(chosen) {
         let library = folder.join(name);
         println!("cargo::rerun-if-changed={}", library.display());

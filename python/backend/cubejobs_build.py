@@ -17,7 +17,7 @@ from typing import Any, Dict, List, Optional
 
 HERE = os.path.dirname(os.path.dirname(os.path.abspath(__file__)))
 # What the module loads, and where a clone and a source archive have it.
-SHARED = ("libcubejobs_fit.so", "libcubejobs_plan.so", "libcubejobs_regions.so")
+SHARED = ("libcubejobs_fit.so", "libcubejobs_plan.so", "libcubejobs_regions.so", "libcubejobs_sched.so")
 RELEASES = (os.path.join(HERE, "..", "release"), os.path.join(HERE, "release"))
 METADATA = """Metadata-Version: 2.1
 Name: cubejobs

@@ -1,4 +1,4 @@
-"""Allocators of aligned blocks and a planner of jobs for Python, over the proved shared objects of cubejobs.
+"""Allocators of aligned blocks, a planner and a scheduler of jobs, over the proved shared objects of cubejobs.
 
 A machine of dimension n has the processors 0 to 2^n - 1. A processor is only a number. A block of dimension k is 2^k
 processors in a row, from a multiple of 2^k on.
@@ -14,7 +14,8 @@ least base. Both hold any number of blocks, on machines of dimension 0 to 20.
 0
 
 `Planner` says which waiting job starts next, and on which processors: `help(cubejobs.Planner)`. `examples/day.py` plans a
-day with it.
+day with it. `Scheduler` is an executor of `concurrent.futures` that runs the jobs itself, in threads:
+`help(cubejobs.Scheduler)`. `examples/gang.py` runs five jobs with it.
 
 Both machines have the methods of `Machine`, so one function serves both. Here it counts the blocks for which there is room:
 
@@ -56,13 +57,15 @@ from types import TracebackType
 from typing import (Any, Callable, ContextManager, Dict, List, NamedTuple, NoReturn, Optional, Tuple, Type,
                     TypeVar, Union)
 
-from cubejobs._common import OtherProcess, Process, Region, natural
+from cubejobs._common import OtherProcess, Process, Region, natural, region_of
 from cubejobs._library import DONE, HEAD_BYTES, MAX_DIM, REGIONS_VERSION, Handle, load
 from cubejobs._library import VERSION as __version__
 from cubejobs._planner import Counts, Job, NoJob, Planner, PlannerFull, State, WrongState
+from cubejobs._scheduler import Forecast, Scheduler, SchedulerCounts, SchedulerFuture, current_processors
 
-__all__ = ["Block", "Counts", "FirstFit", "Job", "MAX_DIM", "Machine", "NoJob", "NoRoom", "NotHeld", "Occupancy",
-           "OtherProcess", "Planner", "PlannerFull", "Region", "Regions", "State", "StillHeld", "WrongState"]
+__all__ = ["Block", "Counts", "FirstFit", "Forecast", "Job", "MAX_DIM", "Machine", "NoJob", "NoRoom", "NotHeld",
+           "Occupancy", "OtherProcess", "Planner", "PlannerFull", "Region", "Regions", "Scheduler", "SchedulerCounts",
+           "SchedulerFuture", "State", "StillHeld", "WrongState", "current_processors"]
 
 _regions, _fit = load()
 _Self = TypeVar("_Self", bound="Machine")
@@ -311,11 +314,7 @@ class Machine(abc.ABC):
 
     def _region(self, base: int, dim: int) -> Region:
         """Returns a region of the machine. Raises ValueError if it has no such region."""
-        dim = natural(dim, self.dim, "the dimension of a block")
-        base = natural(base, (1 << self.dim) - 1, "a processor")
-        if base % (1 << dim):
-            raise ValueError(f"no block of dimension {dim} begins at the processor {base}")
-        return Region(base, dim)
+        return region_of(base, dim, self.dim)
 
     def _held(self, block: Union[Block, Region]) -> Tuple[_Hold, Region]:
         """Returns what a block of this machine holds. Raises NotHeld, or ValueError if there is no such region."""

@@ -1,11 +1,12 @@
-"""What the allocators and the planner share: regions, numbers in a range, and the process that owns a value."""
+"""What the allocators, the planner and the scheduler share: regions, numbers in a range, and the process that owns a
+value."""
 import operator
 import os
 from typing import NamedTuple
 
 
 class OtherProcess(Exception):
-    """A refused call in the child of a fork: the machine or the planner belongs to the parent."""
+    """A refused call in the child of a fork: the machine, the planner or the scheduler belongs to the parent."""
 
 
 class Region(NamedTuple):
@@ -44,6 +45,15 @@ def natural(number: int, most: int, what: str, least: int = 0) -> int:
     if not least <= whole <= most:
         raise ValueError(f"{what} is {least} to {most}, and not {whole}")
     return whole
+
+
+def region_of(base: int, dim: int, machine_dim: int) -> Region:
+    """Returns the block that begins at a processor, of a machine of this dimension. Raises ValueError if there is none."""
+    dim = natural(dim, machine_dim, "the dimension of a block")
+    base = natural(base, (1 << machine_dim) - 1, "a processor")
+    if base % (1 << dim):
+        raise ValueError(f"no block of dimension {dim} begins at the processor {base}")
+    return Region(base, dim)
 
 
 # A user sees them as parts of the module, in messages and in pickles too.

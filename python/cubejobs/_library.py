@@ -13,6 +13,8 @@ REGIONS_VERSION = 3
 HEAD_BYTES = 96
 # The most jobs of a planner, the time that is not known, and the version of the header of the planner.
 MAX_JOBS, NEVER, PLAN_VERSION = 16777216, 2**64 - 1, 1
+# The most workers of a scheduler, and the version of its header. It has as many jobs as a planner.
+MAX_WORKERS, SCHED_VERSION = 65536, 1
 DONE, BAD_VERSION = 0, 15
 
 
@@ -57,6 +59,38 @@ class _PlanJob(ctypes.Structure):
 class _PlanCounts(ctypes.Structure):
     _fields_ = [(name, ctypes.c_uint32)
                 for name in ("code", "waiting", "running", "held", "asked", "occupied", "largest")]
+
+
+class SchedOptions(ctypes.Structure):
+    """What a scheduler is opened for."""
+
+    _fields_ = [("dim", ctypes.c_uint32), ("jobs", ctypes.c_uint32), ("patience", ctypes.c_uint32),
+                ("workers", ctypes.c_uint32)]
+
+
+class SchedRequest(ctypes.Structure):
+    """A job as it is submitted."""
+
+    _fields_ = [("payload", ctypes.c_uint64), ("estimate", ctypes.c_uint64), ("processors", ctypes.c_uint32),
+                ("job_class", ctypes.c_uint32)]
+
+
+class _SchedAnswer(ctypes.Structure):
+    _fields_ = [("code", ctypes.c_uint32), ("count", ctypes.c_uint32), ("woken", ctypes.c_uint32 * 4),
+                ("more", ctypes.c_uint32), ("over", ctypes.c_uint32), ("ticket", ctypes.c_uint64),
+                ("payload", ctypes.c_uint64), ("base", ctypes.c_uint64), ("processors", ctypes.c_uint32),
+                ("worker", ctypes.c_uint32)]
+
+
+class _SchedForecast(ctypes.Structure):
+    _fields_ = [("code", ctypes.c_uint32), ("state", ctypes.c_uint32), ("base", ctypes.c_uint64),
+                ("time", ctypes.c_uint64), ("dim", ctypes.c_uint32), ("unused", ctypes.c_uint32)]
+
+
+class _SchedCounts(ctypes.Structure):
+    _fields_ = [("code", ctypes.c_uint32), ("held", ctypes.c_uint32), ("occupied", ctypes.c_uint32),
+                ("unused", ctypes.c_uint32), ("waiting", ctypes.c_uint64), ("running", ctypes.c_uint64),
+                ("asked", ctypes.c_uint64)]
 
 
 class _OccupancyAnswer(ctypes.Structure):
@@ -112,6 +146,25 @@ _PLAN_CALLS: _Calls = {
     "after": (_PlanJob, [_HANDLE, _U64]),
     "counts": (_PlanCounts, [_HANDLE]),
     "close": (_U32, [_HANDLE]),
+}
+# The last argument of most is the time.
+_SCHED_CALLS: _Calls = {
+    "open_version": (_U32, [_HANDLE, _U32, SchedOptions]),
+    "try_free": (_U32, [_HANDLE]),
+    "try_submit": (_SchedAnswer, [_HANDLE, SchedRequest, _U64]),
+    "try_cancel": (_SchedAnswer, [_HANDLE, _U64, _U64]),
+    "try_worker": (_SchedAnswer, [_HANDLE]),
+    "try_next": (_SchedAnswer, [_HANDLE, _U32, _U64]),
+    "try_give_up": (_SchedAnswer, [_HANDLE, _U32, _U64]),
+    "try_done": (_SchedAnswer, [_HANDLE, _U32, _U64]),
+    "try_leave": (_SchedAnswer, [_HANDLE, _U32, _U64]),
+    "try_occupy": (_SchedAnswer, [_HANDLE, _U64, _U32, _U64]),
+    "try_vacate": (_SchedAnswer, [_HANDLE, _U64, _U32, _U64]),
+    "try_close": (_SchedAnswer, [_HANDLE, _U32, _U64]),
+    "try_rest": (_SchedAnswer, [_HANDLE, _U32]),
+    "try_settle": (_SchedAnswer, [_HANDLE, _U64]),
+    "try_forecast": (_SchedForecast, [_HANDLE, _U64]),
+    "try_counts": (_SchedCounts, [_HANDLE]),
 }
 
 
@@ -174,4 +227,13 @@ def load_plan() -> ctypes.CDLL:
     library = _opened(name, "cubejobs_plan", _PLAN_CALLS)
     refused = library.open_version(Handle(), PLAN_VERSION, PlanOptions(), PlanMemory(), 0)
     _must_fit(name, refused != BAD_VERSION)
+    return library
+
+
+def load_sched() -> ctypes.CDLL:
+    """Returns the library of the scheduler, which says its version as that of the planner does. Raises ImportError if it
+    is missing, or of another one."""
+    name = "libcubejobs_sched.so"
+    library = _opened(name, "cubejobs_sched", _SCHED_CALLS)
+    _must_fit(name, library.open_version(Handle(), SCHED_VERSION, SchedOptions()) != BAD_VERSION)
     return library

@@ -7,7 +7,7 @@ import weakref
 from types import TracebackType
 from typing import Any, Callable, ContextManager, Dict, Iterator, NamedTuple, NoReturn, Optional, Type
 
-from cubejobs._common import OtherProcess, Process, Region, natural
+from cubejobs._common import OtherProcess, Process, Region, natural, region_of
 from cubejobs._library import (DONE, MAX_DIM, MAX_JOBS, NEVER, PLAN_VERSION, Handle, PlanMemory, PlanOptions,
                                PlanRequest, load_plan)
 
@@ -262,12 +262,9 @@ class Planner:
             return self._payloads.pop(found.payload)
 
     def _served(self, call: Callable[..., Any], base: int, dim: int, wrong: str) -> None:
-        dim = natural(dim, self.dim, "the dimension of a block")
-        base = natural(base, (1 << self.dim) - 1, "a processor")
-        if base % (1 << dim):
-            raise ValueError(f"no block of dimension {dim} begins at the processor {base}")
+        region = region_of(base, dim, self.dim)
         with self._turn():
-            if call(self._handle, base, dim) != DONE:
+            if call(self._handle, *region) != DONE:
                 raise WrongState(wrong)
 
 

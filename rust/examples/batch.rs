@@ -1,9 +1,9 @@
-//! A batch scheduler: `batch FILE [--stop-after N]`. Each line of the file is a job, `DIM
-//! MILLISECONDS`: it sleeps that long on a block of `2^DIM` of 16 processors. Two threads submit
-//! the jobs, and four run them. A line `q` on standard input stops it early, and so does the start
-//! of `N` jobs. Then the jobs that run end, and those that have not started are listed.
+//! A batch scheduler: `batch FILE [--stop-after N]`. Each line of the file is a job, `PROCESSORS
+//! MILLISECONDS`: it sleeps that long on so much of 16 processors. Two threads submit the jobs, and
+//! four run them. A line `q` on standard input stops it early, and so does the start of `N` jobs.
+//! Then the jobs that run end, and those that have not started are listed.
 
-use cubejobs::dispatch::{Dispatcher, Lane, Sizes, SubmitError, Worker};
+use cubejobs::sched::{Options, Request, Scheduler, Waiting};
 use std::error::Error;
 use std::io::{self, IsTerminal};
 use std::sync::atomic::{AtomicBool, AtomicUsize, Ordering::SeqCst};
@@ -14,73 +14,65 @@ use std::{env, fs, thread};
 const DIM: u32 = 4;
 const SUBMITTERS: usize = 2;
 const WORKERS: usize = 4;
+/// How many jobs may wait and run at once.
+const JOBS: u32 = 32;
 
-/// A job, with the number of its line. It travels as a box.
+/// A job, with the number of its line.
 struct Task {
     line: usize,
-    dim: u32,
+    processors: u32,
     time: Duration,
 }
-
-type Tasks = Vec<Box<Task>>;
 
 static STOP: AtomicBool = AtomicBool::new(false);
 static STARTED: AtomicUsize = AtomicUsize::new(0);
 static ENDED: AtomicUsize = AtomicUsize::new(0);
 
 /// Returns the jobs of a text, or what is wrong with a line.
-fn parse(text: &str) -> Result<Tasks, String> {
-    let mut tasks = Tasks::new();
+fn parse(text: &str) -> Result<Vec<Task>, String> {
+    let mut tasks = Vec::new();
     for (number, line) in text.lines().enumerate() {
         let line_of = |what: &str| format!("line {}: {what}", number + 1);
         let words: Vec<&str> = line.split_whitespace().collect();
-        let [dim, time] = words[..] else {
-            return Err(line_of("a job is DIM MILLISECONDS"));
+        let [processors, time] = words[..] else {
+            return Err(line_of("a job is PROCESSORS MILLISECONDS"));
         };
-        let dim = dim.parse().ok().filter(|dim| *dim <= DIM);
-        let dim = dim.ok_or_else(|| line_of("the dimension is a number from 0 to 4"))?;
+        let processors = processors.parse().ok().filter(|it| (1..=1 << DIM).contains(it));
+        let processors = processors.ok_or_else(|| line_of("the processors are a number from 1 to 16"))?;
         let time = time.parse().map_err(|_| line_of("the time is a number of milliseconds"))?;
-        tasks.push(Box::new(Task { line: number + 1, dim, time: Duration::from_millis(time) }));
+        tasks.push(Task { line: number + 1, processors, time: Duration::from_millis(time) });
     }
     Ok(tasks)
 }
 
-/// Submits jobs until the lanes are closed. Returns those that were not accepted.
-fn submit(mut lane: Lane<Box<Task>>, tasks: Tasks) -> Tasks {
-    let mut left = Tasks::new();
-    for mut task in tasks {
-        loop {
-            let dim = task.dim;
-            let Err(refused) = lane.submit(task, dim) else { break };
-            task = refused.payload;
-            if refused.reason != SubmitError::Full {
-                left.push(task);
-                break;
-            }
-            // A full lane has room when a worker has taken a job.
-            thread::sleep(Duration::from_millis(1));
+/// Submits jobs until the scheduler is closed. Returns those that were not accepted.
+fn submit(scheduler: &Scheduler<Task>, tasks: Vec<Task>) -> Vec<Task> {
+    let mut left = Vec::new();
+    for task in tasks {
+        let request = Request::new(task.processors).estimate(task.time);
+        // The call sleeps until there is a place. The estimate helps to start wide jobs in time.
+        if let Err(refused) = scheduler.submit(task, request) {
+            left.push(refused.job);
         }
     }
     left
 }
 
-/// Runs jobs until there are no more, or until the stop. Returns a job that it has not started.
-fn work(mut worker: Worker<Box<Task>>, last: usize) -> Tasks {
-    // The call sleeps until the job has its block, which no other job has.
-    while let Some(job) = worker.next() {
+/// Runs jobs until there are no more, or until the stop. Returns a job that it has not run.
+fn work(scheduler: &Scheduler<Task>, last: usize) -> Option<Task> {
+    let mut worker = scheduler.worker().expect("there are as many workers as threads");
+    // The call sleeps until a job starts, on processors that no other job has.
+    while let Ok(job) = worker.next() {
         if STOP.load(SeqCst) {
-            return vec![job.payload];
+            return Some(job.into_job());
         }
         if STARTED.fetch_add(1, SeqCst) + 1 == last {
             STOP.store(true, SeqCst);
         }
-        thread::sleep(job.payload.time);
+        thread::sleep(job.time);
         ENDED.fetch_add(1, SeqCst);
-        if STOP.load(SeqCst) {
-            break;
-        }
-    } // here the job is dropped, which releases its block
-    Tasks::new()
+    } // here the job is dropped, which ends it
+    None
 }
 
 /// Shows on a terminal how many of all jobs have started and ended.
@@ -91,41 +83,37 @@ fn show(all: usize, end: &str) {
     }
 }
 
-/// Runs all tasks, or those up to the stop. Returns those that have not started.
-fn run(tasks: Tasks, last: usize) -> Result<Tasks, Box<dyn Error>> {
-    let sizes = Sizes { lanes: SUBMITTERS as u32, workers: WORKERS as u32, capacity: 16 };
-    let dispatcher = Dispatcher::new(DIM, sizes)?;
+/// Runs all tasks, or those up to the stop. Returns those that have not run.
+fn run(tasks: Vec<Task>, last: usize) -> Result<Vec<Task>, Box<dyn Error>> {
+    let scheduler = &Scheduler::new(Options::new(DIM, JOBS, WORKERS as u32))?;
     let all = tasks.len();
-    let mut parts: [Tasks; SUBMITTERS] = Default::default();
+    let mut parts: [Vec<Task>; SUBMITTERS] = Default::default();
     for task in tasks {
         parts[task.line % SUBMITTERS].push(task);
     }
-    let (mut submitters, mut workers) = (Vec::new(), Vec::new());
-    for part in parts {
-        let lane = dispatcher.lane()?;
-        submitters.push(thread::spawn(move || submit(lane, part)));
-    }
-    for _ in 0..WORKERS {
-        let worker = dispatcher.worker()?;
-        workers.push(thread::spawn(move || work(worker, last)));
-    }
-    while !workers.iter().all(|it| it.is_finished()) {
-        // Closed lanes accept no job. Workers that sleep get up, take what is left, and end.
-        if STOP.load(SeqCst) || submitters.iter().all(|it| it.is_finished()) {
-            dispatcher.close();
+    let mut left = thread::scope(|scope| {
+        let submitters = parts.map(|part| scope.spawn(move || submit(scheduler, part)));
+        let workers = [(); WORKERS].map(|()| scope.spawn(move || work(scheduler, last)));
+        while !workers.iter().all(|it| it.is_finished()) {
+            if STOP.load(SeqCst) {
+                // Jobs that wait do not start, and come back below.
+                scheduler.close(Waiting::ComeBack);
+            } else if submitters.iter().all(|it| it.is_finished()) {
+                scheduler.close(Waiting::Run);
+            }
+            show(all, "");
+            thread::sleep(Duration::from_millis(20));
         }
-        show(all, "");
-        thread::sleep(Duration::from_millis(20));
-    }
-    show(all, "\n");
-    // The workers may all have stopped before the close. A submitter may wait for room in its lane.
-    dispatcher.close();
-    let mut left = Tasks::new();
-    for thread in submitters.into_iter().chain(workers) {
-        left.extend(thread.join().map_err(|_| "a thread has panicked")?);
-    }
-    // No handle is out, since each thread has dropped its own.
-    left.extend(dispatcher.finish()?.map(|job| job.payload));
+        show(all, "\n");
+        // After a stop the workers may all have ended before the close. A submit may still sleep.
+        scheduler.close(Waiting::ComeBack);
+        let submitted = submitters.into_iter().flat_map(|it| it.join().expect("a submitter panicked"));
+        let left: Vec<Task> = submitted.collect();
+        left.into_iter()
+            .chain(workers.into_iter().filter_map(|it| it.join().expect("a worker panicked")))
+            .collect::<Vec<_>>()
+    });
+    left.extend(std::iter::from_fn(|| scheduler.rest()));
     left.sort_by_key(|task| task.line);
     Ok(left)
 }
@@ -147,7 +135,7 @@ fn main() -> Result<(), Box<dyn Error>> {
     });
     let left = run(tasks, last)?;
     for task in &left {
-        println!("line {}: dimension {}, {} ms", task.line, task.dim, task.time.as_millis());
+        println!("line {}: {} processors, {} ms", task.line, task.processors, task.time.as_millis());
     }
     println!("{} jobs have ended, and {} are left", ENDED.load(SeqCst), left.len());
     Ok(())

@@ -1,13 +1,13 @@
-//! An event count: threads that sleep until a call has ended after which a take may succeed.
+//! An event count: threads that sleep until a call has ended after which theirs may succeed.
 //!
-//! It is that of `include/cubejobs_wait.h`. The header says why waiters make their exact takes one
-//! at a time, and why an event comes after each take and each release.
+//! It is that of `include/cubejobs_wait.h`. The header says why threads that wait for a block make
+//! their exact takes one at a time. It also says why an event comes after each take and release.
 
 #[cfg(feature = "regions")]
 use core::sync::atomic::AtomicBool;
 use core::sync::atomic::{AtomicU32, Ordering::SeqCst};
 use std::sync::{Condvar, Mutex, MutexGuard, PoisonError};
-use std::time::Instant;
+use std::time::{Duration, Instant};
 
 #[derive(Default)]
 pub struct Event {
@@ -17,6 +17,7 @@ pub struct Event {
     #[cfg(feature = "regions")]
     is_stopped: AtomicBool,
     // Locked while a waiter makes its exact take.
+    #[cfg(feature = "regions")]
     turn: Mutex<()>,
     // Locked between a waiter's look at the state and its sleep, and before it is woken.
     sleep: Mutex<()>,
@@ -24,6 +25,11 @@ pub struct Event {
     // How often a sleeper was woken.
     #[cfg(test)]
     pub wakes: std::sync::atomic::AtomicU64,
+}
+
+/// Returns the end of a time that begins now, or `None` for one that no clock reaches.
+pub fn deadline_of(timeout: Duration) -> Option<Instant> {
+    Instant::now().checked_add(timeout)
 }
 
 fn lock(mutex: &Mutex<()>) -> MutexGuard<'_, ()> {
@@ -58,10 +64,16 @@ impl Event {
         self.is_stopped.load(SeqCst)
     }
 
+    /// Returns the key of now. Read it before a look.
+    pub fn key(&self) -> u32 {
+        self.state.fetch_or(1, SeqCst) | 1
+    }
+
     /// Makes a take as the only waiter. Returns what it returns, with the key from before it.
+    #[cfg(feature = "regions")]
     pub fn in_turn<T>(&self, take: impl FnOnce() -> T) -> (T, u32) {
         let turn = lock(&self.turn);
-        let key = self.state.fetch_or(1, SeqCst) | 1;
+        let key = self.key();
         let taken = take();
         drop(turn);
         (taken, key)

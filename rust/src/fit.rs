@@ -49,7 +49,7 @@ use crate::Region;
 use core::error::Error;
 use core::fmt;
 pub use memory::Memory;
-#[cfg(any(feature = "dispatch", feature = "plan", feature = "regions", feature = "std"))]
+#[cfg(any(feature = "lanes", feature = "plan", feature = "regions", feature = "std"))]
 pub use memory::Owned;
 
 /// The largest dimension of a machine, which has at most `2^MAX_DIM` processors.
@@ -108,7 +108,7 @@ pub const fn image_bytes(dim: u32) -> usize {
     ffi::HEAD_BYTES + (2 << dim)
 }
 
-#[cfg(any(feature = "dispatch", feature = "plan", feature = "regions", feature = "std"))]
+#[cfg(any(feature = "lanes", feature = "plan", feature = "regions", feature = "std"))]
 impl FirstFit<Owned> {
     /// Makes a machine of dimension `dim` in memory of its own. Nothing is held.
     ///

@@ -1,6 +1,6 @@
 //! Memory of a machine of first fit: its own, or a borrowed slice.
 
-#[cfg(any(feature = "dispatch", feature = "plan", feature = "regions", feature = "std"))]
+#[cfg(any(feature = "lanes", feature = "plan", feature = "regions", feature = "std"))]
 use alloc::{boxed::Box, vec};
 
 /// Memory that a [`FirstFit`](super::FirstFit) uses: [`Owned`], or `&mut [u8]`.
@@ -27,7 +27,7 @@ impl Bytes for &mut [u8] {
 }
 
 /// Memory of a machine's own. A clone has a copy.
-#[cfg(any(feature = "dispatch", feature = "plan", feature = "regions", feature = "std"))]
+#[cfg(any(feature = "lanes", feature = "plan", feature = "regions", feature = "std"))]
 #[derive(Clone)]
 pub struct Owned {
     // So the bytes begin at a multiple of 8.
@@ -35,7 +35,7 @@ pub struct Owned {
     len: usize,
 }
 
-#[cfg(any(feature = "dispatch", feature = "plan", feature = "regions", feature = "std"))]
+#[cfg(any(feature = "lanes", feature = "plan", feature = "regions", feature = "std"))]
 impl Owned {
     /// Returns this many bytes, all 0.
     pub(crate) fn zeroed(len: usize) -> Self {
@@ -43,10 +43,10 @@ impl Owned {
     }
 }
 
-#[cfg(any(feature = "dispatch", feature = "plan", feature = "regions", feature = "std"))]
+#[cfg(any(feature = "lanes", feature = "plan", feature = "regions", feature = "std"))]
 impl Memory for Owned {}
 
-#[cfg(any(feature = "dispatch", feature = "plan", feature = "regions", feature = "std"))]
+#[cfg(any(feature = "lanes", feature = "plan", feature = "regions", feature = "std"))]
 impl Bytes for Owned {
     fn bytes(&self) -> &[u8] {
         debug_assert!(self.len <= 8 * self.words.len());

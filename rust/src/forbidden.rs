@@ -1,5 +1,5 @@
-//! What the types of `regions`, `lanes`, `dispatch` and `plan` forbid. Each of these programs must
-//! not compile.
+//! What the types of `regions`, `lanes`, `plan` and `sched` forbid. Each of these programs must not
+//! compile.
 //!
 //! No block outlives the machine that it borrows:
 //!
@@ -91,15 +91,6 @@
 //! }
 //! ```
 //!
-//! A lane that became a shared one is gone:
-//!
-//! ```compile_fail,E0382
-//! fn share(mut lane: cubejobs::lanes::Lane<u64>) {
-//!     let _ = lane.into_shared();
-//!     let _ = lane.submit(1, 0);
-//! }
-//! ```
-//!
 //! Only what can be sent travels:
 //!
 //! ```compile_fail,E0277
@@ -140,34 +131,6 @@
 //!     let _ = lane.submit(Box::new(&text), 0);
 //! }
 //! drop(lanes);
-//! ```
-//!
-//! A worker runs one job at a time:
-//!
-//! ```compile_fail,E0499
-//! fn run(mut worker: cubejobs::dispatch::Worker<u64>) {
-//!     let one = worker.try_next();
-//!     let other = worker.try_next();
-//!     drop((one, other));
-//! }
-//! ```
-//!
-//! No block outlives its worker:
-//!
-//! ```compile_fail,E0505
-//! fn run(mut worker: cubejobs::dispatch::Worker<u64>) {
-//!     let block = worker.try_next().unwrap().block;
-//!     drop(worker);
-//!     drop(block);
-//! }
-//! ```
-//!
-//! A job without a block is not run, so that a submit and a take go by one kind of lanes:
-//!
-//! ```compile_fail,E0308
-//! fn submit(lane: cubejobs::lanes::Lane<u64>) -> cubejobs::dispatch::Lane<u64> {
-//!     lane
-//! }
 //! ```
 //!
 //! A planner goes to another thread only if its jobs can:
@@ -218,4 +181,59 @@
 //!
 //! ```compile_fail,E0423
 //! let ticket = cubejobs::plan::Ticket(core::num::NonZero::new(1).unwrap());
+//! ```
+//!
+//! Threads share a scheduler only if its jobs can be sent:
+//!
+//! ```compile_fail,E0277
+//! use cubejobs::sched::{Options, Scheduler};
+//! use std::rc::Rc;
+//!
+//! let scheduler = Scheduler::<Rc<u8>>::new(Options::new(3, 8, 1)).unwrap();
+//! std::thread::scope(|scope| {
+//!     scope.spawn(|| scheduler.counts());
+//! });
+//! ```
+//!
+//! No worker outlives its scheduler:
+//!
+//! ```compile_fail,E0505
+//! use cubejobs::sched::{Options, Scheduler};
+//!
+//! let scheduler = Scheduler::<u8>::new(Options::new(3, 8, 1)).unwrap();
+//! let worker = scheduler.worker().unwrap();
+//! drop(scheduler);
+//! drop(worker);
+//! ```
+//!
+//! A worker has one job at a time:
+//!
+//! ```compile_fail,E0499
+//! use cubejobs::sched::{Allocation, Worker};
+//!
+//! fn two<'a>(worker: &'a mut Worker<'_, u8>) -> [Allocation<'a, u8>; 2] {
+//!     [worker.next().unwrap(), worker.next().unwrap()]
+//! }
+//! ```
+//!
+//! A job that has ended has no processors:
+//!
+//! ```compile_fail,E0382
+//! fn base(job: cubejobs::sched::Allocation<'_, u8>) -> u64 {
+//!     drop(job.into_job());
+//!     job.base()
+//! }
+//! ```
+//!
+//! What a job refers to outlives the scheduler:
+//!
+//! ```compile_fail,E0597
+//! use cubejobs::sched::{Options, Request, Scheduler};
+//!
+//! let scheduler = Scheduler::new(Options::new(3, 8, 1)).unwrap();
+//! {
+//!     let text = String::new();
+//!     let _ = scheduler.submit(&text, Request::new(1));
+//! }
+//! drop(scheduler);
 //! ```

@@ -1,8 +1,8 @@
-//! Bounded queues of jobs (lanes), without locks: safe Rust over the library `cubejobs_dispatch`.
+//! Bounded queues of jobs (lanes), without locks: safe Rust over the library `cubejobs_lanes`.
 //!
 //! Each producer has a [`Lane`], and each worker takes jobs from any lane. A submit or a take is a
 //! few atomic steps. Each accepted job is taken once, or is left at the end. This is proved of the
-//! library for every interleaving of the calls. Shared lanes are only tested.
+//! library for every interleaving of the calls. Producers that share a lane keep it under a mutex.
 //!
 //! ```
 //! use cubejobs::lanes::{Lanes, Sizes};
@@ -28,13 +28,13 @@
 //! # }
 //! ```
 //!
-//! A job carries a `u64`, or a `Box` of yours ([`Payload`]), and a dimension. Here the dimension is
-//! any number. In [`dispatch`](crate::dispatch) it is that of the block that the job wants.
+//! A job carries a `u64`, or a `Box` of yours ([`Payload`]). It has a second number too, of any
+//! meaning, such as the dimension of a block.
 //!
 //! # What a drop means
 //!
 //! - A [`Lane`] or a [`Worker`] is back, and [`Lanes::lane`] or [`Lanes::worker`] can return it
-//!   again. So is a shared lane with its last [`SharedLane`].
+//!   again.
 //! - A [`Worker`] that sleeps waits, and the next [`Lanes::worker`] returns it as it is.
 //! - The [`Lanes`] close. The handles still work, and the last one that is dropped frees all.
 //! - A [`Rest`], and the last of all handles, drop the jobs that are left, with their payloads.
@@ -43,7 +43,8 @@
 //!
 //! # Sleep
 //!
-//! With the feature `std`, `Worker::next` sleeps until there is a job. Without it your threads park
+//! With the feature `std`, `Worker::next` sleeps until there is a job, and `Lane::submit_or_wait`
+//! until there is a place for one. Without it your threads park
 //! by what you have. [`Worker::find`] says when to park. [`Accepted`] and [`Finding`] say which
 //! worker to wake.
 //!
@@ -54,18 +55,21 @@
 //! allocator. A take sees the memory that was written before the submit. Tests show that, and no
 //! theorem says so.
 
-use crate::dispatch_ffi::{self as ffi, Handle, Plain};
+#[cfg(feature = "std")]
+use crate::event::deadline_of;
+use crate::lanes_ffi as ffi;
 pub use crate::payload::Payload;
 #[cfg(feature = "std")]
 use crate::place::pause;
 pub use crate::room::Out;
-use crate::room::{Kind, Room};
+use crate::room::Room;
 use crate::shared::Shared;
-pub use crate::sharing::{SharedError, SharedLane};
 use core::error::Error;
 use core::fmt;
+#[cfg(feature = "std")]
+use std::time::{Duration, Instant};
 
-/// The most lanes, which is also the most producers that do not share one. See [`Sizes`].
+/// The most lanes. See [`Sizes`].
 pub const MAX_LANES: u32 = ffi::MAX_LANES;
 
 /// The most workers. See [`Sizes`].
@@ -90,22 +94,22 @@ pub struct Sizes {
 /// [module](self).
 #[must_use = "a drop closes the lanes"]
 pub struct Lanes<P: Payload> {
-    room: Shared<Room<Plain, P>>,
+    room: Shared<Room<P>>,
 }
 
 /// The handle of a producer, with a lane of its own. A drop gives it back. See [`Lane::submit`].
 #[must_use = "a drop gives the lane back"]
 pub struct Lane<P: Payload> {
-    pub(crate) room: Shared<Room<Plain, P>>,
-    pub(crate) handle: Handle<ffi::Lane, Plain>,
+    room: Shared<Room<P>>,
+    handle: ffi::OneLane,
 }
 
 /// The handle of a worker. A drop gives it back. See [`Worker::take`]. With the feature `std` it
 /// becomes an iterator ([`IntoIterator`]).
 #[must_use = "a drop gives the worker back"]
 pub struct Worker<P: Payload> {
-    room: Shared<Room<Plain, P>>,
-    handle: Handle<ffi::Worker, Plain>,
+    room: Shared<Room<P>>,
+    handle: ffi::OneWorker,
     number: u32,
     #[cfg(feature = "std")]
     from: u32,
@@ -126,7 +130,7 @@ pub struct Job<P> {
     pub lane: u32,
     /// Its number in the lane, from 0 on.
     pub seq: u64,
-    /// Its dimension.
+    /// Its second number.
     pub dim: u32,
     /// What it carries.
     pub payload: P,
@@ -178,14 +182,14 @@ pub enum Found<P> {
 /// dropped as they slept. Then it goes lane by lane, in the order of each. See [`Lanes::finish`].
 #[must_use = "a drop drops the jobs that are left"]
 pub struct Rest<P: Payload> {
-    room: Shared<Room<Plain, P>>,
+    room: Shared<Room<P>>,
 }
 
 /// The error of lanes that were not finished, with the lanes. They are closed. See
 /// [`Lanes::finish`].
 #[non_exhaustive]
 pub struct StillOut<L> {
-    /// The lanes, or the dispatcher.
+    /// The lanes.
     pub owner: L,
     /// The first handle that is not back.
     pub out: Out,
@@ -221,6 +225,8 @@ pub enum SubmitError {
     Closed,
     /// The lane has accepted `2^62` jobs.
     Spent,
+    /// The lane had as many jobs as its capacity for all of the time.
+    TimedOut,
 }
 
 /// The reason why no job was taken. See [`Worker::take`].
@@ -237,45 +243,6 @@ pub enum TakeError {
     Lost,
     /// A [`Worker::find`] has not come to its end: call it again.
     Asleep,
-}
-
-impl Kind for Plain {
-    fn lane(owner: &mut ffi::Lanes, lane: &mut ffi::OneLane) -> u32 {
-        ffi::cubejobs_lanes_lane(owner, lane)
-    }
-
-    fn worker(owner: &mut ffi::Lanes, worker: &mut ffi::OneWorker) -> u32 {
-        ffi::cubejobs_lanes_worker(owner, worker)
-    }
-
-    fn number(worker: &mut ffi::OneWorker) -> ffi::Numbered {
-        ffi::cubejobs_lanes_worker_number(worker)
-    }
-
-    fn free_worker(worker: &mut ffi::OneWorker) -> u32 {
-        ffi::cubejobs_lanes_free_worker(worker)
-    }
-
-    fn empty(worker: &mut ffi::OneWorker) -> ffi::Job {
-        let ffi::Found { code, lane, dim, seq, payload, left, .. } = ffi::cubejobs_lanes_find(worker, 0);
-        ffi::Job { code, lane, dim, seq, payload, left }
-    }
-
-    fn close(owner: &mut ffi::Lanes) -> ffi::Closed {
-        ffi::cubejobs_lanes_close(owner)
-    }
-
-    fn finish(owner: &mut ffi::Lanes) -> ffi::Numbered {
-        ffi::cubejobs_lanes_finish(owner)
-    }
-
-    fn rest(owner: &mut ffi::Lanes) -> ffi::Job {
-        ffi::cubejobs_lanes_rest(owner)
-    }
-
-    fn free(owner: &mut ffi::Lanes) -> u32 {
-        ffi::cubejobs_lanes_free(owner)
-    }
 }
 
 impl<P: Payload> Lanes<P> {
@@ -301,8 +268,7 @@ impl<P: Payload> Lanes<P> {
     pub fn new(sizes: Sizes) -> Result<Self, OpenError> {
         let Sizes { lanes, workers, capacity } = sizes;
         let sizes = ffi::Sizes { lanes, workers, capacity };
-        let open = |owner: &mut _| ffi::cubejobs_lanes_open_version(owner, ffi::VERSION, sizes);
-        match Room::open(sizes, open) {
+        match Room::open(sizes) {
             Ok(room) => Shared::try_new(room).map(|room| Lanes { room }).map_err(|_| OpenError::OutOfMemory),
             Err(code) => Err(OpenError::of(code)),
         }
@@ -325,7 +291,7 @@ impl<P: Payload> Lanes<P> {
     ///
     /// `NoneLeft` if all workers are out, or `OutOfMemory`.
     pub fn worker(&self) -> Result<Worker<P>, DealError> {
-        let (handle, number, _) = self.room.worker().map_err(DealError::of)?;
+        let (handle, number) = self.room.worker().map_err(DealError::of)?;
         Ok(Worker {
             room: self.room.clone(),
             handle,
@@ -398,8 +364,74 @@ impl<P: Payload> Lane<P> {
             let payload = unsafe { P::from_word(word) };
             return Err(Refused { reason: SubmitError::of(submitted.code), payload });
         }
-        let woken = self.room.wake(|| ffi::cubejobs_lanes_wake(&mut self.handle));
-        Ok(Accepted { seq: submitted.seq, woken })
+        Ok(Accepted { seq: submitted.seq, woken: self.room.wake(&mut self.handle) })
+    }
+
+    /// Submits a job as [`submit`](Lane::submit) does, and sleeps while the lane is full.
+    ///
+    /// # Errors
+    ///
+    /// The first of these that applies: `Closed`, `Spent`. A close ends the sleep.
+    ///
+    /// ```
+    /// use cubejobs::lanes::{Lanes, Sizes};
+    /// use std::thread;
+    ///
+    /// let lanes = Lanes::<u64>::new(Sizes { lanes: 1, workers: 1, capacity: 2 })?;
+    /// let (mut lane, mut worker) = (lanes.lane()?, lanes.worker()?);
+    /// let thread = thread::spawn(move || (0..10).all(|it| lane.submit_or_wait(it, 0).is_ok()));
+    /// assert!((0..10).all(|it| worker.next().unwrap().payload == it));
+    /// assert!(thread.join().unwrap());
+    /// # Ok::<(), Box<dyn std::error::Error>>(())
+    /// ```
+    #[cfg(feature = "std")]
+    pub fn submit_or_wait(&mut self, payload: P, dim: u32) -> Result<Accepted, Refused<SubmitError, P>> {
+        self.submit_until(payload, dim, None)
+    }
+
+    /// Submits a job as [`submit`](Lane::submit) does, and sleeps while the lane is full, but no
+    /// longer than `timeout`.
+    ///
+    /// # Errors
+    ///
+    /// The first of these that applies: `Closed`, `Spent`, `TimedOut`.
+    #[cfg(feature = "std")]
+    pub fn submit_timeout(
+        &mut self,
+        payload: P,
+        dim: u32,
+        timeout: Duration,
+    ) -> Result<Accepted, Refused<SubmitError, P>> {
+        self.submit_until(payload, dim, deadline_of(timeout))
+    }
+
+    /// Submits a job, and sleeps while the lane is full. It tries once more after its deadline.
+    ///
+    /// A take raises the event after it. A submit reads its key before it finds the lane full. So
+    /// it misses no place that becomes free later.
+    #[cfg(feature = "std")]
+    fn submit_until(
+        &mut self,
+        payload: P,
+        dim: u32,
+        deadline: Option<Instant>,
+    ) -> Result<Accepted, Refused<SubmitError, P>> {
+        let mut refused = match self.submit(payload, dim) {
+            Err(refused) if refused.reason == SubmitError::Full => refused,
+            submitted => return submitted,
+        };
+        loop {
+            let is_last = deadline.is_some_and(|it| it <= Instant::now());
+            let key = self.room.event.key();
+            refused = match self.submit(refused.payload, dim) {
+                Err(refused) if refused.reason == SubmitError::Full => refused,
+                submitted => return submitted,
+            };
+            if is_last {
+                return Err(Refused { reason: SubmitError::TimedOut, payload: refused.payload });
+            }
+            self.room.event.wait(key, deadline);
+        }
     }
 }
 
@@ -432,7 +464,8 @@ impl<P: Payload> Worker<P> {
     /// # Ok::<(), Box<dyn std::error::Error>>(())
     /// ```
     pub fn take(&mut self, lane: u32) -> Result<Job<P>, TakeError> {
-        Self::taken(ffi::cubejobs_lanes_take(&mut self.handle, lane))
+        let job = ffi::cubejobs_lanes_take(&mut self.handle, lane);
+        self.taken(job)
     }
 
     /// Goes round all lanes, from lane `from` on, and takes the first job that it can. See
@@ -443,7 +476,8 @@ impl<P: Payload> Worker<P> {
     /// The first of these that applies: `Asleep`, `BadLane`, `Empty` (no lane has a job, or other
     /// workers took it), `Ended`.
     pub fn take_any(&mut self, from: u32) -> Result<Job<P>, TakeError> {
-        Self::taken(ffi::cubejobs_lanes_take_any(&mut self.handle, from))
+        let job = ffi::cubejobs_lanes_take_any(&mut self.handle, from);
+        self.taken(job)
     }
 
     /// Returns the number of jobs in a lane that the worker knows of, at least 1. It takes none.
@@ -472,6 +506,7 @@ impl<P: Payload> Worker<P> {
             ffi::cubejobs_lanes_find(&mut self.handle, from % self.room.lanes);
         let found = match code {
             ffi::DONE => {
+                self.room.raise();
                 // SAFETY: a submit of these lanes made the word of a `P`, and a job is found once.
                 let payload = unsafe { P::from_word(payload) };
                 Found::Job(Job { lane, seq, dim, payload })
@@ -514,10 +549,13 @@ impl<P: Payload> Worker<P> {
     }
 
     /// Returns the job that a take got, or why there is none.
-    fn taken(job: ffi::Job) -> Result<Job<P>, TakeError> {
+    fn taken(&self, job: ffi::Job) -> Result<Job<P>, TakeError> {
         match job.code {
-            // SAFETY: a submit of these lanes made the word of a `P`, and a job is taken once.
-            ffi::DONE => Ok(unsafe { Job::of(job) }),
+            ffi::DONE => {
+                self.room.raise();
+                // SAFETY: a submit of these lanes made the word of a `P`, and a job is taken once.
+                Ok(unsafe { Job::of(job) })
+            }
             code => Err(TakeError::of(code)),
         }
     }
@@ -548,7 +586,7 @@ impl<P: Payload> Job<P> {
     ///
     /// # Safety
     /// A submit made its word, of a `P`, and no other call gets it.
-    pub(crate) unsafe fn of(job: ffi::Job) -> Self {
+    unsafe fn of(job: ffi::Job) -> Self {
         let ffi::Job { lane, dim, seq, payload, .. } = job;
         // SAFETY: as the caller promises.
         Job { lane, seq, dim, payload: unsafe { P::from_word(payload) } }
@@ -572,14 +610,13 @@ impl<P: Payload> Drop for Lanes<P> {
 
 impl<P: Payload> Drop for Lane<P> {
     fn drop(&mut self) {
-        // It is refused if the lane became a shared one.
         ffi::cubejobs_lanes_free_lane(&mut self.handle);
     }
 }
 
 impl<P: Payload> Drop for Worker<P> {
     fn drop(&mut self) {
-        self.room.free_worker(&mut self.handle, false);
+        self.room.free_worker(&mut self.handle);
     }
 }
 
@@ -594,7 +631,7 @@ impl OpenError {
 }
 
 impl DealError {
-    pub(crate) fn of(code: u32) -> Self {
+    fn of(code: u32) -> Self {
         match code {
             ffi::NONE_LEFT => DealError::NoneLeft,
             ffi::OUT_OF_MEMORY => DealError::OutOfMemory,
@@ -604,7 +641,7 @@ impl DealError {
 }
 
 impl SubmitError {
-    pub(crate) fn of(code: u32) -> Self {
+    fn of(code: u32) -> Self {
         match code {
             ffi::FULL => SubmitError::Full,
             ffi::CLOSED => SubmitError::Closed,
@@ -694,6 +731,7 @@ impl fmt::Display for SubmitError {
             SubmitError::Full => "the lane is full",
             SubmitError::Closed => "the lanes are closed",
             SubmitError::Spent => "the lane has accepted 2^62 jobs",
+            SubmitError::TimedOut => "the lane was full for all of the time",
         })
     }
 }

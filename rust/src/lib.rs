@@ -1,5 +1,5 @@
-//! Allocators of aligned blocks, queues of jobs, and a planner of jobs in blocks: safe Rust over
-//! the proved libraries of cubejobs.
+//! Allocators of aligned blocks, queues of jobs, and a planner and a scheduler of jobs in blocks:
+//! safe Rust over the proved libraries of cubejobs.
 //!
 //! A machine of dimension `n` has the processors `0` to `2^n - 1`. A block (a [`Region`]) of
 //! dimension `k` is `2^k` processors in a row, from a multiple of `2^k` on.
@@ -7,8 +7,8 @@
 //! | You have | Use |
 //! |---|---|
 //! | threads, and any number of blocks | `regions::Machine`, in the default feature `regions` |
-//! | jobs for worker threads, each with a block | `dispatch::Dispatcher`, in `dispatch` |
-//! | jobs for worker threads | `lanes::Lanes`, in the default feature `dispatch` |
+//! | jobs for worker threads | `lanes::Lanes`, in the default feature `lanes` |
+//! | threads that ask for their next job | `sched::Scheduler`, in the default feature `sched` |
 //! | jobs that wait until there is room for them | `plan::Planner`, in the default feature `plan` |
 //! | one thread, or threads under your lock | [`fit::FirstFit`], exact first fit |
 //! | the same, in memory that processes share | [`fit::FirstFit`] over a slice |
@@ -33,34 +33,33 @@
 #![no_std]
 #![warn(missing_docs)]
 
-#[cfg(any(feature = "dispatch", feature = "plan", feature = "regions", feature = "std"))]
+#[cfg(any(feature = "lanes", feature = "plan", feature = "regions", feature = "sched", feature = "std"))]
 extern crate alloc;
 #[cfg(feature = "std")]
 extern crate std;
 
-#[cfg(feature = "dispatch")]
-pub mod dispatch;
-#[cfg(feature = "dispatch")]
-#[cfg_attr(not(cubejobs_archives), path = "over/dispatch_ffi.rs")]
-mod dispatch_ffi;
-#[cfg(all(any(feature = "dispatch", feature = "regions"), feature = "std"))]
+#[cfg(all(any(feature = "lanes", feature = "regions"), feature = "std"))]
 mod event;
 pub mod fit;
 #[cfg_attr(not(cubejobs_archives), path = "over/fit_ffi.rs")]
 mod fit_ffi;
-#[cfg(all(doctest, feature = "dispatch", feature = "plan", feature = "regions"))]
+#[cfg(all(doctest, feature = "lanes", feature = "plan", feature = "regions", feature = "sched"))]
 mod forbidden;
 #[cfg(feature = "regions")]
 mod handles;
-#[cfg(feature = "dispatch")]
+#[cfg(feature = "lanes")]
 pub mod lanes;
+#[cfg(feature = "lanes")]
+#[cfg_attr(not(cubejobs_archives), path = "over/lanes_ffi.rs")]
+mod lanes_ffi;
 #[cfg(feature = "regions")]
 mod own_handle;
-#[cfg(all(feature = "dispatch", feature = "std"))]
+#[cfg(all(feature = "lanes", feature = "std"))]
 mod parking;
-#[cfg(feature = "dispatch")]
+#[cfg(feature = "lanes")]
 mod payload;
-#[cfg(any(feature = "dispatch", feature = "regions"))]
+#[cfg(any(feature = "lanes", feature = "regions", all(feature = "sched", not(cubejobs_archives))))]
+#[cfg_attr(not(any(feature = "lanes", feature = "regions")), allow(dead_code))]
 mod place;
 #[cfg(feature = "plan")]
 pub mod plan;
@@ -76,20 +75,26 @@ pub mod regions;
 #[cfg(feature = "regions")]
 #[cfg_attr(not(cubejobs_archives), path = "over/regions_ffi.rs")]
 mod regions_ffi;
-#[cfg(feature = "dispatch")]
+#[cfg(feature = "lanes")]
 mod room;
 pub mod rounds;
 #[cfg_attr(not(cubejobs_archives), path = "over/rounds_ffi.rs")]
 mod rounds_ffi;
-#[cfg(any(feature = "dispatch", feature = "regions"))]
+#[cfg(feature = "sched")]
+pub mod sched;
+#[cfg(feature = "sched")]
+#[cfg_attr(not(cubejobs_archives), path = "over/sched_ffi.rs")]
+mod sched_ffi;
+#[cfg(any(feature = "lanes", feature = "regions", all(feature = "sched", not(cubejobs_archives))))]
+#[cfg_attr(not(any(feature = "lanes", feature = "regions")), allow(dead_code))]
 mod shared;
-#[cfg(feature = "dispatch")]
-mod sharing;
-#[cfg(feature = "plan")]
+#[cfg(any(feature = "plan", feature = "sched"))]
 mod slab;
 #[cfg(not(cubejobs_archives))]
 #[rustfmt::skip]
 mod source;
+#[cfg(feature = "sched")]
+mod turns;
 #[cfg(all(feature = "regions", feature = "std"))]
 mod waiting;
 

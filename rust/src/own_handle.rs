@@ -2,9 +2,9 @@
 
 use crate::regions::{Block, Machine, Occupancy, OpenError, TakeError};
 use crate::regions_ffi::{self as ffi, Answer, BlockHandle};
-#[cfg(feature = "std")]
-use crate::waiting;
 use crate::Region;
+#[cfg(feature = "std")]
+use crate::{event::deadline_of, waiting};
 use core::borrow::Borrow;
 use core::fmt;
 #[cfg(feature = "std")]
@@ -160,7 +160,7 @@ impl<M: Borrow<Machine> + Clone> Handle<M> {
     /// The first of these that applies: `Stopped`, `BadDimension`, `TimedOut`.
     #[cfg(feature = "std")]
     pub fn take_timeout(&mut self, k: u32, timeout: Duration) -> Result<Block<M>, TakeError> {
-        self.take_until(k, waiting::deadline_of(timeout))
+        self.take_until(k, deadline_of(timeout))
     }
 
     #[cfg(feature = "std")]

@@ -1,4 +1,4 @@
-//! A value that one call at a time borrows.
+//! A value that one call at a time borrows, and one that a proof gives to one thread at a time.
 
 use core::cell::UnsafeCell;
 use core::marker::PhantomData;
@@ -32,6 +32,17 @@ unsafe impl<T: Send> Sync for Place<T> {}
 // no value half changed.
 impl<T> UnwindSafe for Place<T> {}
 impl<T> RefUnwindSafe for Place<T> {}
+
+/// A value that a proof gives to one thread at a time. The erased sources alone have such values.
+#[allow(dead_code)]
+pub struct Slot<T>(UnsafeCell<T>);
+
+// SAFETY: as `lend` says, threads get the value in turn, as if it were sent.
+unsafe impl<T: Send> Sync for Slot<T> {}
+
+// A value is lent for one call of a library, as that of a `Place` is.
+impl<T> UnwindSafe for Slot<T> {}
+impl<T> RefUnwindSafe for Slot<T> {}
 
 /// A borrowed value. It is given back when this is dropped.
 pub struct Borrowed<'a, T> {
@@ -68,6 +79,24 @@ impl<T> Place<T> {
 
     pub fn get_mut(&mut self) -> &mut T {
         self.value.get_mut()
+    }
+}
+
+#[allow(dead_code)]
+impl<T> Slot<T> {
+    pub const fn new(value: T) -> Self {
+        Slot(UnsafeCell::new(value))
+    }
+
+    /// Lends the value while its seat is borrowed. It is for a seat of a table that has the slot.
+    pub fn lend<'a, S>(&'a self, _seat: &'a mut S) -> &'a mut T {
+        // SAFETY: the proved rule of the table gives a slot to one seat at a time. The words by
+        // which it passes from seat to seat are sequentially consistent.
+        unsafe { &mut *self.0.get() }
+    }
+
+    pub fn get_mut(&mut self) -> &mut T {
+        self.0.get_mut()
     }
 }
 
@@ -109,7 +138,7 @@ impl<T> Drop for Borrowed<'_, T> {
 
 #[cfg(test)]
 mod tests {
-    use super::Place;
+    use super::{Place, Slot};
 
     #[test]
     fn a_value_is_borrowed_once() {
@@ -119,5 +148,12 @@ mod tests {
         assert!(place.borrow().is_none() && place.borrow().is_none());
         drop(borrowed);
         assert_eq!(*place.borrow().unwrap(), 7);
+    }
+
+    #[test]
+    fn a_slot_keeps_what_is_written() {
+        let mut slot = Slot::new(7);
+        *slot.lend(&mut ()) += 1;
+        assert_eq!((*slot.lend(&mut ()), *slot.get_mut()), (8, 8));
     }
 }

@@ -68,9 +68,9 @@
 use crate::handles::Handles;
 pub use crate::own_handle::Handle;
 use crate::regions_ffi::{self as ffi, BlockHandle};
-#[cfg(feature = "std")]
-use crate::waiting;
 use crate::Region;
+#[cfg(feature = "std")]
+use crate::{event::deadline_of, waiting};
 use alloc::sync::Arc;
 use core::borrow::Borrow;
 use core::error::Error;
@@ -391,7 +391,7 @@ impl<M: Borrow<Machine>> Block<M> {
     /// Those of [`Machine::take_timeout`], in the same order.
     #[cfg(feature = "std")]
     pub fn take_timeout(machine: M, k: u32, timeout: Duration) -> Result<Self, TakeError> {
-        Self::take_until(machine, k, waiting::deadline_of(timeout))
+        Self::take_until(machine, k, deadline_of(timeout))
     }
 
     #[cfg(feature = "std")]

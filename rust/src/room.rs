@@ -1,13 +1,12 @@
-//! What the handles of one set of lanes share, with a machine or without one.
+//! What the handles of one set of lanes share.
 //!
 //! The library wants all lanes and workers back before lanes end, and only its owner ends them. So
 //! each handle here shares the `Room`, which has the owner. The last handle that is dropped ends
-//! the lanes. A worker that cannot go back, since it sleeps or keeps a job, waits in the room.
+//! the lanes. A worker that cannot go back, since it sleeps, waits in the room.
 
-use crate::dispatch_ffi::{self as ffi, Closed, Handle, Job, Numbered};
-use crate::dispatch_ffi::{Lane, Owner, Worker};
 #[cfg(feature = "std")]
 use crate::event::Event;
+use crate::lanes_ffi::{self as ffi, Handle, Job, Lane, Lanes, Numbered, OneLane, OneWorker};
 #[cfg(feature = "std")]
 use crate::parking::Parking;
 use crate::payload::Payload;
@@ -15,21 +14,6 @@ use crate::place::{pause, Apart, Place};
 use alloc::vec::Vec;
 use core::cmp::Reverse;
 use core::marker::PhantomData;
-
-/// The calls of lanes, or those of a dispatcher, that are alike.
-pub trait Kind: Sized {
-    fn lane(owner: &mut Handle<Owner, Self>, lane: &mut Handle<Lane, Self>) -> u32;
-    fn worker(owner: &mut Handle<Owner, Self>, worker: &mut Handle<Worker, Self>) -> u32;
-    fn number(worker: &mut Handle<Worker, Self>) -> Numbered;
-    fn free_worker(worker: &mut Handle<Worker, Self>) -> u32;
-    /// Returns the job that a worker keeps, or finds, without its block. If there is none, the
-    /// code says why.
-    fn empty(worker: &mut Handle<Worker, Self>) -> Job;
-    fn close(owner: &mut Handle<Owner, Self>) -> Closed;
-    fn finish(owner: &mut Handle<Owner, Self>) -> Numbered;
-    fn rest(owner: &mut Handle<Owner, Self>) -> Job;
-    fn free(owner: &mut Handle<Owner, Self>) -> u32;
-}
 
 /// A handle that is not back when lanes are to end. See [`StillOut`](crate::lanes::StillOut).
 #[derive(Clone, Copy, Debug, PartialEq, Eq)]
@@ -41,26 +25,21 @@ pub enum Out {
     Worker(u32),
 }
 
-/// A worker that waits for the next caller that wants one.
-struct Left<K> {
-    worker: Handle<Worker, K>,
-    keeps: bool,
-}
-
-struct Inner<K> {
-    owner: Handle<Owner, K>,
-    // At most one for each worker, so no push takes memory.
-    left: Vec<Left<K>>,
+struct Inner {
+    owner: Lanes,
+    // Workers that wait for the next caller that wants one: at most one for each worker, so no push
+    // takes memory.
+    left: Vec<OneWorker>,
     // Jobs of workers that were left, once the lanes have ended. The first one is the last here.
     jobs: Vec<Job>,
     has_ended: bool,
 }
 
-pub struct Room<K: Kind, P: Payload> {
-    inner: Apart<Place<Inner<K>>>,
+pub struct Room<P: Payload> {
+    inner: Apart<Place<Inner>>,
     #[cfg(feature = "std")]
     pub parking: Parking,
-    // Raised when a worker that keeps a job may get its block.
+    // Raised when a lane may have a place for one more job.
     #[cfg(feature = "std")]
     pub event: Event,
     pub lanes: u32,
@@ -68,23 +47,23 @@ pub struct Room<K: Kind, P: Payload> {
     payload: PhantomData<fn(P) -> P>,
 }
 
-impl<K: Kind, P: Payload> Room<K, P> {
-    /// Opens lanes by `open`. Returns the code of the refusal if it refuses.
-    pub fn open(sizes: ffi::Sizes, open: impl FnOnce(&mut Handle<Owner, K>) -> u32) -> Result<Self, u32> {
+impl<P: Payload> Room<P> {
+    /// Opens lanes. Returns the code of the refusal if they are refused.
+    pub fn open(sizes: ffi::Sizes) -> Result<Self, u32> {
         let mut inner = Inner { owner: Handle::SHUT, left: Vec::new(), jobs: Vec::new(), has_ended: false };
         let is_in_range = (1..=ffi::MAX_WORKERS).contains(&sizes.workers);
-        let workers = if is_in_range { sizes.workers } else { 0 };
+        let (lanes, workers) = (sizes.lanes, if is_in_range { sizes.workers } else { 0 });
         inner.left.try_reserve_exact(workers as usize).map_err(|_| ffi::OUT_OF_MEMORY)?;
         #[cfg(feature = "std")]
         let parking = Parking::new(workers).ok_or(ffi::OUT_OF_MEMORY)?;
-        match open(&mut inner.owner) {
+        match ffi::cubejobs_lanes_open_version(&mut inner.owner, ffi::VERSION, sizes) {
             ffi::DONE => Ok(Room {
                 inner: Apart(Place::new(inner)),
                 #[cfg(feature = "std")]
                 parking,
                 #[cfg(feature = "std")]
                 event: Event::default(),
-                lanes: sizes.lanes,
+                lanes,
                 payload: PhantomData,
             }),
             code => Err(code),
@@ -92,55 +71,56 @@ impl<K: Kind, P: Payload> Room<K, P> {
     }
 
     /// Returns a producer's handle, or the code of the refusal.
-    pub fn lane(&self) -> Result<Handle<Lane, K>, u32> {
-        let mut lane = Handle::SHUT;
-        match K::lane(&mut self.inner.wait().owner, &mut lane) {
+    pub fn lane(&self) -> Result<OneLane, u32> {
+        let mut lane = Handle::<Lane>::SHUT;
+        match ffi::cubejobs_lanes_lane(&mut self.inner.wait().owner, &mut lane) {
             ffi::DONE => Ok(lane),
             code => Err(code),
         }
     }
 
-    /// Returns a worker's handle, its number, and whether it keeps a job, or the code of the
-    /// refusal. Workers that were left come first.
-    pub fn worker(&self) -> Result<(Handle<Worker, K>, u32, bool), u32> {
+    /// Returns a worker's handle and its number, or the code of the refusal. Workers that were left
+    /// come first.
+    pub fn worker(&self) -> Result<(OneWorker, u32), u32> {
         let mut inner = self.inner.wait();
-        let (mut worker, keeps) = match inner.left.pop() {
-            Some(left) => (left.worker, left.keeps),
+        let mut worker = match inner.left.pop() {
+            Some(left) => left,
             None => {
                 let mut worker = Handle::SHUT;
-                match K::worker(&mut inner.owner, &mut worker) {
-                    ffi::DONE => (worker, false),
+                match ffi::cubejobs_lanes_worker(&mut inner.owner, &mut worker) {
+                    ffi::DONE => worker,
                     code => return Err(code),
                 }
             }
         };
-        let number = K::number(&mut worker).number;
-        Ok((worker, number, keeps))
+        let number = ffi::cubejobs_lanes_worker_number(&mut worker).number;
+        Ok((worker, number))
     }
 
-    /// Gives a worker back, or leaves it here if it sleeps or keeps a job.
-    pub fn free_worker(&self, worker: &mut Handle<Worker, K>, keeps: bool) {
-        if K::free_worker(worker) != ffi::DONE {
+    /// Gives a worker back, or leaves it here if it sleeps.
+    pub fn free_worker(&self, worker: &mut OneWorker) {
+        if ffi::cubejobs_lanes_free_worker(worker) != ffi::DONE {
             let worker = core::mem::replace(worker, Handle::SHUT);
-            self.inner.wait().left.push(Left { worker, keeps });
+            self.inner.wait().left.push(worker);
         }
     }
 
     /// Closes the lanes. Returns the number of accepted jobs, or `None` if they were closed.
     pub fn close(&self) -> Option<u64> {
-        let closed = K::close(&mut self.inner.wait().owner);
+        let closed = ffi::cubejobs_lanes_close(&mut self.inner.wait().owner);
         #[cfg(feature = "std")]
         self.parking.unpark_all();
+        self.raise();
         (closed.code == ffi::DONE).then_some(closed.accepted)
     }
 
-    /// Wakes a worker by the calls of a producer's handle. Returns the number of the worker.
-    pub fn wake(&self, mut wake: impl FnMut() -> Numbered) -> Option<u32> {
+    /// Wakes a worker for the last job of a lane, if one is to wake. Returns its number.
+    pub fn wake(&self, lane: &mut OneLane) -> Option<u32> {
         loop {
-            let Numbered { code, number } = wake();
+            let Numbered { code, number } = ffi::cubejobs_lanes_wake(lane);
             match code {
                 ffi::DONE => return self.unpark(number),
-                ffi::AGAIN | ffi::BUSY => pause(),
+                ffi::AGAIN => pause(),
                 ffi::NOBODY => return None,
                 code => unreachable!("a wake has no code {code}"),
             }
@@ -158,6 +138,13 @@ impl<K: Kind, P: Payload> Room<K, P> {
         Some(worker)
     }
 
+    /// Wakes the submits that wait for a place, after a take has made one free.
+    #[allow(clippy::unused_self)] // without the feature `std` no thread sleeps here
+    pub fn raise(&self) {
+        #[cfg(feature = "std")]
+        self.event.raise();
+    }
+
     /// Ends the lanes, if all handles are back.
     pub fn finish(&self) -> Result<(), Out> {
         self.close();
@@ -172,28 +159,28 @@ impl<K: Kind, P: Payload> Room<K, P> {
 
 /// Ends closed lanes, if all handles are back. First the workers that are left go back, and their
 /// jobs are kept here.
-fn end<K: Kind>(inner: &mut Inner<K>) -> Result<(), Out> {
+fn end(inner: &mut Inner) -> Result<(), Out> {
     if inner.has_ended {
         return Ok(());
     }
     while let Some(left) = inner.left.last_mut() {
-        let is_back = K::free_worker(&mut left.worker) == ffi::DONE;
+        let is_back = ffi::cubejobs_lanes_free_worker(left) == ffi::DONE;
         if is_back {
             inner.left.pop();
             continue;
         }
-        let out = Out::Worker(K::number(&mut left.worker).number);
+        let out = Out::Worker(ffi::cubejobs_lanes_worker_number(left).number);
         inner.jobs.try_reserve(1).map_err(|_| out)?;
-        let job = K::empty(&mut left.worker);
-        match job.code {
-            ffi::DONE => inner.jobs.push(job),
+        let ffi::Found { code, lane, dim, seq, payload, left, .. } = ffi::cubejobs_lanes_find(left, 0);
+        match code {
+            ffi::DONE => inner.jobs.push(Job { code, lane, dim, seq, payload, left }),
             ffi::ENDED | ffi::AGAIN => {}
             _ => return Err(out),
         }
     }
     inner.jobs.sort_unstable_by_key(|job| Reverse((job.lane, job.seq)));
     loop {
-        let Numbered { code, number } = K::finish(&mut inner.owner);
+        let Numbered { code, number } = ffi::cubejobs_lanes_finish(&mut inner.owner);
         match code {
             ffi::DONE => {
                 inner.has_ended = true;
@@ -208,17 +195,17 @@ fn end<K: Kind>(inner: &mut Inner<K>) -> Result<(), Out> {
     }
 }
 
-fn rest<K: Kind>(inner: &mut Inner<K>) -> Option<Job> {
+fn rest(inner: &mut Inner) -> Option<Job> {
     inner.jobs.pop().or_else(|| {
-        let job = K::rest(&mut inner.owner);
+        let job = ffi::cubejobs_lanes_rest(&mut inner.owner);
         (job.code == ffi::DONE).then_some(job)
     })
 }
 
-impl<K: Kind, P: Payload> Drop for Room<K, P> {
+impl<P: Payload> Drop for Room<P> {
     fn drop(&mut self) {
         let inner = self.inner.get_mut();
-        K::close(&mut inner.owner);
+        ffi::cubejobs_lanes_close(&mut inner.owner);
         // No handle is out, since each one shares the room. If a worker that was left cannot go
         // back, nothing is freed.
         if end(inner).is_err() {
@@ -228,6 +215,6 @@ impl<K: Kind, P: Payload> Drop for Room<K, P> {
             // SAFETY: a submit of these lanes made the word of a `P`, and a job is left once.
             drop(unsafe { P::from_word(job.payload) });
         }
-        K::free(&mut inner.owner);
+        ffi::cubejobs_lanes_free(&mut inner.owner);
     }
 }

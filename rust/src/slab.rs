@@ -47,6 +47,7 @@ impl<T> Slab<T> {
     }
 
     /// Returns the value of a number. Panics if there is none.
+    #[cfg(feature = "plan")]
     pub fn get(&self, number: u64) -> &T {
         match &self.places[number as usize] {
             Place::Full(value) => value,
@@ -55,6 +56,7 @@ impl<T> Slab<T> {
     }
 
     /// Returns the value of a number. Panics if there is none.
+    #[cfg(feature = "plan")]
     pub fn get_mut(&mut self, number: u64) -> &mut T {
         match &mut self.places[number as usize] {
             Place::Full(value) => value,

@@ -3,15 +3,10 @@
 use crate::event::Event;
 use crate::regions::TakeError;
 use crate::regions_ffi::{self as ffi, Answer, BlockHandle, Handle};
-use std::time::{Duration, Instant};
+use std::time::Instant;
 
 /// A quick or an exact take of a block of some dimension.
 pub type Take = fn(&mut Handle, &mut BlockHandle, u32) -> Answer;
-
-/// Returns the end of a time that begins now, or `None` for one that no clock reaches.
-pub fn deadline_of(timeout: Duration) -> Option<Instant> {
-    Instant::now().checked_add(timeout)
-}
 
 /// Makes a quick take by `make`, and then exact ones until one is not refused for want of a block.
 /// It makes one more after the deadline, if there is one. Returns the answer of the last take, or

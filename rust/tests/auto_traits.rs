@@ -1,6 +1,6 @@
 //! The auto traits of each public type. They are the same over the libraries and in plain Rust.
 
-use cubejobs::{dispatch, fit, lanes, plan, regions, rounds};
+use cubejobs::{fit, lanes, plan, regions, rounds, sched};
 use std::cell::Cell;
 
 type Machine = &'static regions::Machine;
@@ -83,25 +83,16 @@ fn of_lanes() -> Vec<(&'static str, Traits)> {
         lanes::Sizes, lanes::Lanes<u64>, lanes::Lane<u64>, lanes::Worker<u64>, lanes::Jobs<u64>,
         lanes::Job<u64>, lanes::Accepted, lanes::Refused<lanes::SubmitError, u64>, lanes::Finding<u64>,
         lanes::Found<u64>, lanes::Rest<u64>, lanes::StillOut<lanes::Lanes<u64>>, lanes::OpenError,
-        lanes::DealError, lanes::SubmitError, lanes::TakeError, lanes::Out, lanes::SharedLane<u64>,
-        lanes::SharedError, dispatch::Dispatcher<u64>, dispatch::Lane<u64>, dispatch::Worker<u64>,
-        dispatch::Rest<u64>, dispatch::OpenError, dispatch::SubmitError, dispatch::NextError,
-        lanes::Lanes<Boxed>, lanes::Lane<Boxed>, lanes::SharedLane<Boxed>, lanes::Worker<Boxed>,
-        lanes::Jobs<Boxed>, lanes::Rest<Boxed>, lanes::StillOut<lanes::Lanes<Boxed>>,
-        dispatch::Dispatcher<Boxed>, dispatch::Lane<Boxed>, dispatch::Worker<Boxed>,
-        dispatch::Rest<Boxed>,
+        lanes::DealError, lanes::SubmitError, lanes::TakeError, lanes::Out, lanes::Lanes<Boxed>,
+        lanes::Lane<Boxed>, lanes::Worker<Boxed>, lanes::Jobs<Boxed>, lanes::Rest<Boxed>,
+        lanes::StillOut<lanes::Lanes<Boxed>>,
     ];
     found.to_vec()
 }
 
 /// What runs borrows its worker as a `&mut` does.
 fn of_running_jobs() -> Vec<(&'static str, Traits)> {
-    let found = traits![
-        dispatch::Running<'static, u64>,
-        dispatch::Block<'static, u64>,
-        dispatch::Finding<'static, u64>,
-        dispatch::Found<'static, u64>,
-    ];
+    let found = traits![sched::Allocation<'static, u64>,];
     found.to_vec()
 }
 
@@ -125,6 +116,31 @@ fn of_plans() -> Vec<(&'static str, Traits)> {
     found.to_vec()
 }
 
+fn of_schedulers() -> Vec<(&'static str, Traits)> {
+    let found = traits![
+        sched::Scheduler<u64>,
+        sched::Scheduler<Boxed>,
+        sched::Worker<'static, u64>,
+        sched::Worker<'static, Boxed>,
+        sched::Options,
+        sched::Request,
+        sched::Ticket,
+        sched::Waiting,
+        sched::Forecast,
+        sched::Counts,
+        sched::OpenError,
+        sched::Rejected<u64>,
+        sched::Reason,
+        sched::CancelError,
+        sched::WorkerError,
+        sched::Ended,
+        sched::NotOut,
+        sched::OccupyError,
+        sched::VacateError,
+    ];
+    found.to_vec()
+}
+
 /// Calls by reference use the library, one at a time.
 fn of_planners() -> Vec<(&'static str, Traits)> {
     traits![plan::Planner<u64>, plan::Planner<Boxed>,].to_vec()
@@ -139,6 +155,7 @@ fn each_type_has_its_auto_traits() {
     must_lack(&[], &of_machines());
     must_lack(&[], &of_lanes());
     must_lack(&[], &of_plans());
+    must_lack(&[], &of_schedulers());
     must_lack(&["Sync", "RefUnwindSafe"], &of_planners());
     must_lack(&["Send", "Sync", "UnwindSafe", "RefUnwindSafe"], &of_their_jobs());
     must_lack(&["Send", "Sync", "RefUnwindSafe"], &traits![plan::Planner<std::rc::Rc<u8>>,]);
@@ -152,7 +169,9 @@ fn each_type_has_its_auto_traits() {
             lanes::Found<Boxed>,
         ],
     );
-    must_lack(&["Sync", "UnwindSafe", "RefUnwindSafe"], &traits![dispatch::Running<'static, Boxed>,]);
+    must_lack(&["Sync", "UnwindSafe", "RefUnwindSafe"], &traits![sched::Allocation<'static, Boxed>,]);
+    must_lack(&["Sync", "RefUnwindSafe"], &traits![sched::Rejected<Boxed>,]);
+    must_lack(&["Send", "Sync"], &traits![sched::Scheduler<std::rc::Rc<u8>>,]);
 }
 
 #[test]
@@ -166,11 +185,18 @@ fn no_public_type_is_left_out() {
         ("regions", include_str!("../src/regions.rs")),
         ("regions", include_str!("../src/own_handle.rs")),
         ("lanes", include_str!("../src/lanes.rs")),
-        ("lanes", include_str!("../src/sharing.rs")),
-        ("dispatch", include_str!("../src/dispatch.rs")),
         ("plan", include_str!("../src/plan.rs")),
+        ("sched", include_str!("../src/sched.rs")),
     ];
-    let known = [of_machines(), of_lanes(), of_running_jobs(), of_plans(), of_planners(), of_their_jobs()];
+    let known = [
+        of_machines(),
+        of_lanes(),
+        of_running_jobs(),
+        of_plans(),
+        of_planners(),
+        of_their_jobs(),
+        of_schedulers(),
+    ];
     let known: Vec<&str> = known.concat().iter().map(|it| it.0).collect();
     let mut count = 0;
     for (module, text) in files {

@@ -101,7 +101,10 @@ fn refusals_say_why() {
 fn each_error_has_a_sentence() {
     use TakeError::*;
     let mut texts: Vec<String> = [BadLane, Empty, Ended, Lost, Asleep].map(|it| it.to_string()).into();
-    texts.extend([SubmitError::Full, SubmitError::Closed, SubmitError::Spent].map(|it| it.to_string()));
+    texts.extend(
+        [SubmitError::Full, SubmitError::Closed, SubmitError::Spent, SubmitError::TimedOut]
+            .map(|it| it.to_string()),
+    );
     texts.extend([OpenError::BadSizes.to_string(), DealError::NoneLeft.to_string()]);
     texts.push(OpenError::OutOfMemory.to_string());
     for (number, text) in texts.iter().enumerate() {

@@ -4,10 +4,10 @@
 //!
 //! `malloc` and `free` of this program are those below, for Rust and for the library alike.
 
-use cubejobs::dispatch::{self, Dispatcher};
 use cubejobs::lanes::{self, DealError, Lanes, Sizes};
 use cubejobs::plan::{self, Options, Planner, Request};
 use cubejobs::regions::{Held, Machine, OpenError, TakeError};
+use cubejobs::sched::{self, Scheduler};
 use std::cell::Cell;
 use std::ffi::c_void;
 use std::fmt::Debug;
@@ -212,11 +212,11 @@ const SIZES: Sizes = Sizes { lanes: 2, workers: 2, capacity: 4 };
 
 fn lanes_leave_no_memory_behind() {
     for round in 0..200 {
-        let (lanes, mut lane, shared, mut worker) = counting(|| {
+        let (lanes, mut lane, other, mut worker) = counting(|| {
             let lanes = Lanes::<Box<u64>>::new(SIZES).unwrap();
-            let (lane, shared) = (lanes.lane().unwrap(), lanes.lane().unwrap().into_shared().unwrap());
+            let (lane, other) = (lanes.lane().unwrap(), lanes.lane().unwrap());
             let worker = lanes.worker().unwrap();
-            (lanes, lane, shared, worker)
+            (lanes, lane, other, worker)
         });
         counting(|| (0..3).for_each(|number| assert!(lane.submit(Box::new(number), 0).is_ok())));
         assert!(LIVE.load(SeqCst) >= 7, "the jobs of open lanes are not counted");
@@ -224,7 +224,7 @@ fn lanes_leave_no_memory_behind() {
         thread::scope(|scope| {
             scope.spawn(|| counting(|| drop(lanes)));
             scope.spawn(|| counting(|| drop(lane)));
-            scope.spawn(|| counting(|| drop(shared)));
+            scope.spawn(|| counting(|| drop(other)));
             scope.spawn(|| {
                 counting(|| {
                     drop(worker.take(0).unwrap());
@@ -236,62 +236,17 @@ fn lanes_leave_no_memory_behind() {
     }
 }
 
-fn a_dispatcher_leaves_no_memory_behind() {
-    for round in 0..200 {
-        let (dispatcher, mut lane, mut one, mut two) = counting(|| {
-            let dispatcher = Dispatcher::<Box<u64>>::new(3, SIZES).unwrap();
-            let (lane, one) = (dispatcher.lane().unwrap(), dispatcher.worker().unwrap());
-            let two = dispatcher.worker().unwrap();
-            (dispatcher, lane, one, two)
-        });
-        counting(|| (0..4).for_each(|number| assert!(lane.submit(Box::new(number), 3).is_ok())));
-        let running = one.try_next().unwrap();
-        assert!(two.try_next().is_err()); // it keeps a job
-        counting(|| drop(running));
-        thread::scope(|scope| {
-            scope.spawn(|| counting(|| drop(dispatcher)));
-            scope.spawn(|| counting(|| drop(lane)));
-            scope.spawn(|| counting(|| drop(one)));
-            scope.spawn(|| counting(|| drop(two)));
-        });
-        assert_eq!(LIVE.load(SeqCst), 0, "after round {round}");
-    }
-}
-
 fn refused_requests_of_lanes_are_errors() {
     let (lanes, of_open) = refuse_each(lanes::OpenError::OutOfMemory, || Lanes::<u64>::new(SIZES));
     assert!(of_open >= 3, "{of_open} requests");
-    let (lane, _) = refuse_each(DealError::OutOfMemory, || lanes.lane());
+    let (mut lane, _) = refuse_each(DealError::OutOfMemory, || lanes.lane());
     let (mut worker, _) = refuse_each(DealError::OutOfMemory, || lanes.worker());
-    let mut lane = Some(lane);
-    let (mut shared, _) = refuse_each(DealError::OutOfMemory, || {
-        lane.take().unwrap().into_shared().map_err(|it| {
-            lane = Some(it);
-            DealError::OutOfMemory
-        })
-    });
-    let (other, _) = refuse_each(DealError::OutOfMemory, || shared.share());
     // From then on no call makes a request, the end among them.
     with_requests(0, || {
-        (0..4).for_each(|number| assert!(shared.submit(number, 0).is_ok()));
+        (0..4).for_each(|number| assert!(lane.submit(number, 0).is_ok()));
         assert_eq!(worker.take_any(0).unwrap().payload, 0);
-        drop((shared, other, worker));
-        assert_eq!(lanes.finish().unwrap().count(), 3);
-    });
-    assert_eq!(LIVE.load(SeqCst), 0);
-}
-
-fn refused_requests_of_a_dispatcher_are_errors() {
-    let open = || Dispatcher::<u64>::new(7, SIZES);
-    let (dispatcher, of_open) = refuse_each(dispatch::OpenError::OutOfMemory, open);
-    assert!(of_open >= 4, "{of_open} requests");
-    let (mut lane, _) = refuse_each(DealError::OutOfMemory, || dispatcher.lane());
-    let (mut worker, _) = refuse_each(DealError::OutOfMemory, || dispatcher.worker());
-    with_requests(0, || {
-        (0..4).for_each(|number| assert!(lane.submit(number, 7).is_ok()));
-        assert_eq!(worker.try_next().unwrap().payload, 0);
         drop((lane, worker));
-        assert_eq!(dispatcher.finish().unwrap().count(), 3);
+        assert_eq!(lanes.finish().unwrap().count(), 3);
     });
     assert_eq!(LIVE.load(SeqCst), 0);
 }
@@ -332,6 +287,63 @@ fn refused_requests_of_a_planner_are_errors() {
     assert_eq!(LIVE.load(SeqCst), 0);
 }
 
+fn a_scheduler_leaves_no_memory_behind() {
+    for round in 0..200 {
+        let scheduler = counting(|| {
+            let scheduler = Scheduler::new(sched::Options::new(3, 4, 2)).unwrap();
+            for number in 0..4 {
+                assert!(scheduler.submit(Box::new(number), sched::Request::new(8)).is_ok());
+            }
+            scheduler
+        });
+        assert!(LIVE.load(SeqCst) >= 4, "the jobs of a scheduler are not counted");
+        counting(|| {
+            let mut worker = scheduler.worker().unwrap();
+            assert_eq!(**worker.next().unwrap(), 0);
+            std::mem::forget(worker);
+            if round % 2 == 0 {
+                scheduler.close(sched::Waiting::Run);
+            }
+        });
+        thread::scope(|scope| {
+            scope.spawn(|| counting(|| drop(scheduler)));
+        });
+        assert_eq!(LIVE.load(SeqCst), 0, "after round {round}");
+    }
+}
+
+fn a_scheduler_with_a_forgotten_job_leaves_no_memory_behind() {
+    counting(|| {
+        let scheduler = Scheduler::new(sched::Options::new(3, 4, 2)).unwrap();
+        (0..4).for_each(|number| assert!(scheduler.submit(number, sched::Request::new(8)).is_ok()));
+        let mut worker = scheduler.worker().unwrap();
+        std::mem::forget(worker.next().unwrap());
+        std::mem::forget(worker);
+    });
+    assert_eq!(LIVE.load(SeqCst), 0);
+}
+
+fn refused_requests_of_a_scheduler_are_errors() {
+    let open = || Scheduler::new(sched::Options::new(3, 5, 2));
+    let (scheduler, of_open) = refuse_each(sched::OpenError::OutOfMemory, open);
+    assert!(of_open >= 4, "{of_open} requests");
+    // From then on no call makes a request.
+    with_requests(0, || {
+        for number in 0..100 {
+            let ticket = scheduler.submit(number, sched::Request::new(1)).unwrap();
+            if scheduler.try_submit(number, sched::Request::new(8)).is_ok() && number % 5 == 0 {
+                assert_eq!(scheduler.cancel(ticket).unwrap(), number);
+            }
+            let mut worker = scheduler.worker().unwrap();
+            while let Ok(job) = worker.try_next() {
+                assert_eq!(job.into_job(), number);
+            }
+        }
+        drop(scheduler);
+    });
+    assert_eq!(LIVE.load(SeqCst), 0);
+}
+
 // One test, since the count is for all threads.
 #[test]
 fn memory() {
@@ -340,9 +352,10 @@ fn memory() {
     at_most_32_calls_of_a_machine_allocate();
     handles_of_threads_leave_no_memory_behind();
     lanes_leave_no_memory_behind();
-    a_dispatcher_leaves_no_memory_behind();
     refused_requests_of_lanes_are_errors();
-    refused_requests_of_a_dispatcher_are_errors();
     a_planner_leaves_no_memory_behind();
     refused_requests_of_a_planner_are_errors();
+    a_scheduler_leaves_no_memory_behind();
+    a_scheduler_with_a_forgotten_job_leaves_no_memory_behind();
+    refused_requests_of_a_scheduler_are_errors();
 }

@@ -20,46 +20,49 @@ pub mod fit_tree;
 pub mod rank_steps;
 pub mod release_version;
 
-#[cfg(any(feature = "dispatch", feature = "regions"))]
-pub mod bitmap_tree;
-#[cfg(any(feature = "dispatch", feature = "plan", feature = "regions"))]
+#[cfg(any(feature = "lanes", feature = "plan", feature = "regions", feature = "sched"))]
 pub mod kit;
 
 #[cfg(feature = "regions")]
 pub mod bitmap_occupancy;
 #[cfg(feature = "regions")]
+pub mod bitmap_tree;
+#[cfg(feature = "regions")]
 pub mod cubejobs_regions;
 
-#[cfg(feature = "dispatch")]
-pub mod cubejobs_dispatch;
-#[cfg(feature = "dispatch")]
-pub mod ghost_log;
-#[cfg(feature = "dispatch")]
+#[cfg(feature = "lanes")]
+pub mod cubejobs_lanes;
+#[cfg(feature = "lanes")]
 pub mod job_lanes;
-#[cfg(feature = "dispatch")]
+#[cfg(feature = "lanes")]
 pub mod kept_places;
-#[cfg(feature = "dispatch")]
-pub mod region_shop;
-#[cfg(feature = "dispatch")]
-pub mod shop_owner;
-#[cfg(feature = "dispatch")]
+#[cfg(feature = "lanes")]
 pub mod wake_calls;
-#[cfg(feature = "dispatch")]
+#[cfg(feature = "lanes")]
 pub mod wake_pool;
 
-#[cfg(feature = "plan")]
+#[cfg(any(feature = "plan", feature = "sched"))]
 pub mod block_trees;
 #[cfg(feature = "plan")]
 pub mod cubejobs_plan;
-#[cfg(feature = "plan")]
+#[cfg(any(feature = "plan", feature = "sched"))]
 pub mod sched_blocks;
-#[cfg(feature = "plan")]
+#[cfg(any(feature = "plan", feature = "sched"))]
 pub mod sched_core;
-#[cfg(feature = "plan")]
+#[cfg(any(feature = "plan", feature = "sched"))]
 pub mod sched_jobs;
-#[cfg(feature = "plan")]
+#[cfg(any(feature = "plan", feature = "sched"))]
 pub mod sched_law;
-#[cfg(feature = "plan")]
+#[cfg(any(feature = "plan", feature = "sched"))]
 pub mod sched_request;
-#[cfg(feature = "plan")]
+#[cfg(any(feature = "plan", feature = "sched"))]
 pub mod wait_queue;
+
+#[cfg(feature = "sched")]
+pub mod cubejobs_sched;
+#[cfg(feature = "sched")]
+pub mod sched_board;
+#[cfg(feature = "sched")]
+pub mod sched_pool;
+#[cfg(feature = "sched")]
+pub mod sched_threads;

@@ -12,7 +12,7 @@ pub(crate) mod apart;
 pub(crate) mod checks;
 pub(crate) mod counts;
 pub(crate) mod errors;
-#[cfg(feature = "plan")]
+#[cfg(any(feature = "plan", feature = "sched"))]
 pub(crate) mod fit;
 pub(crate) mod head;
 pub mod image;
@@ -24,6 +24,6 @@ pub(crate) mod writes;
 
 pub use crate::source::cube_shape::{MAX_BITMAP_DIM, Region};
 pub use errors::{JoinError, NoFitError, NotFreeError, NotHeldError, SplitError};
-#[cfg(feature = "plan")]
+#[cfg(any(feature = "plan", feature = "sched"))]
 pub use fit::FitTree;
 pub use head::{COUNT_PLACES, Head, IMAGE_MARK};

@@ -5,7 +5,6 @@
 use crate::source::job_lanes::sizes::Plan;
 use crate::source::job_lanes::sleeping::Sleeper;
 use crate::source::job_lanes::view::Both;
-use crate::source::kit::atomic_table::Badge;
 
 pub type Seat = crate::source::kit::atomic_table::Seat<(), Both>;
 
@@ -33,12 +32,6 @@ pub struct Lane {
 #[must_use = "the proved source spends each value of this type by a call"]
 pub struct Worker {
     pub(crate) sleeper: Sleeper,
-}
-
-/// Names lanes, without a right to any call.
-pub struct LanesName {
-    pub(crate) badge: Badge<Both>,
-    pub(crate) plan: Plan,
 }
 
 /// The right to close all lanes. There is one.

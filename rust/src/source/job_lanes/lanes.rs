@@ -3,9 +3,9 @@
 use crate::source::kit::prelude::{Vec, vec};
 
 use crate::source::job_lanes::ending::drain;
-use crate::source::job_lanes::handles::{Lane, LanesEnd, LanesName, Members, Worker};
+use crate::source::job_lanes::handles::{Lane, LanesEnd, Members, Worker};
 use crate::source::job_lanes::record::LaneJob;
-use crate::source::job_lanes::rule::{DealLane, DealNone, DealWorker, LanesRule};
+use crate::source::job_lanes::rule::{DealLane, DealWorker, LanesRule};
 use crate::source::job_lanes::sizes::{CELLS, MAX_CAPACITY, MAX_LANES, MAX_WORKERS, Plan, Sizes};
 use crate::source::job_lanes::sleeping::Sleeper;
 use crate::source::job_lanes::view::Both;
@@ -148,7 +148,8 @@ impl Lanes {
     /// - ensures unchanged: `OnErr result (members.new ≡ members.old)`
     pub fn deal_worker(&self, alloc: Global, members: &mut Members) -> Result<Worker, AllocError> {
         let tails = vec![in alloc; 0_u64; self.plan.sizes.lanes as usize]?;
-        Ok(self.seat_worker(members, tails))
+        let sleeper = self.seat_sleeper(members, tails);
+        Ok(Worker { sleeper })
     }
 
     /// Returns the sizes of the lanes.
@@ -161,41 +162,8 @@ impl Lanes {
         sizes
     }
 
-    /// Returns the name of these lanes. It makes one atomic step.
-    ///
-    /// # Clauses of the proved source
-    ///
-    /// - requires: `lane.old.id ≡ self.now`
-    /// - ensures name: `result ≡ self.now`
-    /// - ensures lane: `lane.new ≡ lane.old`
-    pub fn name(&self, lane: &mut Lane) -> LanesName {
-        let seat = self.table.shared.split_seat::<DealNone>(&mut lane.seat);
-        LanesName {
-            badge: seat.into_badge(),
-            plan: self.plan,
-        }
-    }
-
-    /// Deals out the first worker that is not dealt out yet, with the memory for a word for each
-    /// lane, which are 0.
-    ///
-    /// # Clauses of the proved source
-    ///
-    /// - requires members: `members.old.id ≡ self.now`
-    /// - requires more: `members.old.dealt_workers < self.now.plan.sizes.workers`
-    /// - requires tails: `tails.items ≡ replicate self.now.plan.sizes.lanes 0`
-    /// - ensures members: `members.new.id ≡ self.now`
-    /// - ensures id: `result.id ≡ self.now`
-    /// - ensures fresh: `result.known ≡ fresh_worker self.now.plan members.old.dealt_workers`
-    /// - ensures no_deeds: `result.deeds ≡ []`
-    /// - ensures workers: `members.new.dealt_workers ≡ members.old.dealt_workers + 1`
-    /// - ensures lanes: `members.new.dealt_lanes ≡ members.old.dealt_lanes`
-    pub fn seat_worker(&self, members: &mut Members, tails: Vec<u64>) -> Worker {
-        let sleeper = self.seat_sleeper(members, tails);
-        Worker { sleeper }
-    }
-
-    // The same as one that may sleep.
+    // Deals out the first worker that is not dealt out yet, as one that may sleep. `tails` has a 0
+    // for each lane.
     fn seat_sleeper(&self, members: &mut Members, tails: Vec<u64>) -> Sleeper {
         let number = members.dealt_workers;
         let seat = self

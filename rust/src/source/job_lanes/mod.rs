@@ -23,7 +23,7 @@ pub(crate) mod takes;
 pub(crate) mod view;
 
 pub use finder::{At, Finder, Finding, Found};
-pub use handles::{Closer, Lane, LanesEnd, LanesName, Members, Note, Worker};
+pub use handles::{Closer, Lane, LanesEnd, Members, Note, Worker};
 pub use lanes::Lanes;
 pub use record::{LaneJob, LaneRecord, Sight, TakeRecord, WorkerRecord};
 pub use rounds::{Looked, TakenAny};

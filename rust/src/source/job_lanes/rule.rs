@@ -86,11 +86,6 @@ pub struct DealWorker;
 
 impl Split<Both> for DealWorker {}
 
-// A seat without a record is split off.
-pub struct DealNone;
-
-impl Split<Both> for DealNone {}
-
 // The records of two seats are joined.
 pub struct Gather;
 

@@ -10,5 +10,5 @@ pub(crate) mod tries;
 pub use kept::{KeptLane, KeptNote, KeptWorker};
 pub use name::PlaceName;
 pub use places::{first_empty, first_full, take_from};
-pub use returns::{ReturnPlace, collect, collect_all, leave, named_places};
+pub use returns::{ReturnPlace, collect_all, leave, named_places};
 pub use tries::TRIES;

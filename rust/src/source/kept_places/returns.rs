@@ -62,12 +62,8 @@ pub fn leave<X: Fits>(place: &ReturnPlace<X>, content: X) -> Result<(), X> {
     Ok(())
 }
 
-/// Takes the content of a place, if it has one.
-///
-/// # Clauses of the proved source
-///
-/// - ensures fits: `IfSome result (X.fits place.now)`
-pub fn collect<X: Fits>(place: &ReturnPlace<X>) -> Option<X> {
+// Takes the content of a place, if it has one.
+fn collect<X: Fits>(place: &ReturnPlace<X>) -> Option<X> {
     if place.load() != PRESENT {
         return None;
     }

@@ -1,6 +1,8 @@
-//! A table of atomic words, without slots. Each step is sequentially consistent, as in the kit.
+//! A table of atomic words and of slots. Each step is sequentially consistent, as in the kit.
 
 use super::alloc::{AllocError, Global};
+use super::collections::Vec;
+use crate::place::Slot;
 use alloc::boxed::Box;
 use core::marker::PhantomData;
 use core::sync::atomic::{AtomicU64, Ordering::SeqCst};
@@ -23,21 +25,34 @@ pub struct Seat<S, V>(PhantomData<fn() -> (S, V)>);
 /// A seat that does not name what slots have.
 pub struct Badge<V>(PhantomData<fn() -> V>);
 
-/// The words, as threads share them.
-pub struct Shared<S, V, K, P>(Box<[AtomicU64]>, PhantomData<fn() -> (S, V, K, P)>);
+/// The slots. Each has its value until the table has ended.
+type Slots<S> = Box<[Slot<Option<S>>]>;
 
-/// The words, and the right to close them.
+/// The words and the slots, as threads share them.
+pub struct Shared<S, V, K, P>(Box<[AtomicU64]>, Slots<S>, PhantomData<fn() -> (V, K, P)>);
+
+/// The words and the slots, and the right to close them.
 pub struct Table<S, V, K, P, A> {
     pub shared: Shared<S, V, K, P>,
     of: PhantomData<fn() -> A>,
 }
 
-/// The words at the end.
-pub struct Closed<S, A>(Box<[AtomicU64]>, PhantomData<fn() -> (S, A)>);
+/// There was no memory. The slots come back.
+pub struct Refused<S> {
+    pub slots: Vec<S>,
+}
+
+/// The words and the slots at the end.
+pub struct Closed<S, A>(Box<[AtomicU64]>, Slots<S>, PhantomData<fn() -> A>);
 
 impl<S, V> Seat<S, V> {
     pub fn into_badge(self) -> Badge<V> {
         Badge(PhantomData)
+    }
+
+    /// Lends a slot. The proofs show that the seat has it, so no other thread has it.
+    pub fn slot_mut<'a, K, P>(&'a mut self, table: &'a Shared<S, V, K, P>, slot: usize) -> &'a mut S {
+        table.1[slot].lend(self).as_mut().expect("a slot without a value")
     }
 }
 
@@ -52,16 +67,23 @@ impl<V> Badge<V> {
 }
 
 impl<S, V, K, P: TableRule<S, V, K>> Table<S, V, K, P, Global> {
-    pub fn of_words(_: Global, words: &[u64], _: &K) -> Result<(Self, Seat<S, V>), AllocError> {
-        let mut made = alloc::vec::Vec::new();
-        made.try_reserve_exact(words.len()).map_err(|_| AllocError)?;
+    pub fn new(_: Global, words: &[u64], slots: Vec<S>, _: &K) -> Result<(Self, Seat<S, V>), Refused<S>> {
+        let (mut made, mut filled) = (alloc::vec::Vec::new(), alloc::vec::Vec::new());
+        if made.try_reserve_exact(words.len()).is_err() || filled.try_reserve_exact(slots.len()).is_err() {
+            return Err(Refused { slots });
+        }
         made.extend(words.iter().map(|word| AtomicU64::new(*word)));
-        let shared = Shared(made.into_boxed_slice(), PhantomData);
+        filled.extend(slots.0.into_iter().map(|value| Slot::new(Some(value))));
+        let shared = Shared(made.into_boxed_slice(), filled.into_boxed_slice(), PhantomData);
         Ok((Table { shared, of: PhantomData }, Seat(PhantomData)))
     }
 
+    pub fn of_words(alloc: Global, words: &[u64], about: &K) -> Result<(Self, Seat<S, V>), AllocError> {
+        Table::new(alloc, words, Vec::new(alloc), about).map_err(|_| AllocError)
+    }
+
     pub fn close(self) -> Closed<S, Global> {
-        Closed(self.shared.0, PhantomData)
+        Closed(self.shared.0, self.shared.1, PhantomData)
     }
 
     pub fn close_with(self, _: Seat<S, V>) -> Closed<S, Global> {
@@ -72,6 +94,11 @@ impl<S, V, K, P: TableRule<S, V, K>> Table<S, V, K, P, Global> {
 impl<S, A> Closed<S, A> {
     pub fn word(&self, i: usize) -> u64 {
         self.0[i].load(SeqCst)
+    }
+
+    /// Takes the value of a slot. The proofs show that there is one.
+    pub fn take(&mut self, i: usize) -> S {
+        self.1[i].get_mut().take().expect("a slot without a value")
     }
 
     pub fn free(self) {}

@@ -9,7 +9,7 @@ pub use alloc::collections::LinkedList;
 /// also show that a list has no items where it is freed as an empty one.
 macro_rules! list {
     ($list:ident, $inner:ty, $push:ident, $push_reserved:ident) => {
-        #[derive(Debug)] pub struct $list<T>($inner);
+        #[derive(Debug)] pub struct $list<T>(pub(super) $inner);
 
         impl<T> $list<T> {
             pub fn with_capacity(_: Global, count: usize) -> Result<Self, AllocError> {

@@ -4,17 +4,18 @@
 //! each function beside the text of the toolchain that it replaces.
 
 pub mod alloc;
+#[cfg(any(feature = "lanes", feature = "regions", feature = "sched"))]
 pub mod atomic_table;
 pub mod collections;
-#[cfg(feature = "dispatch")]
+#[cfg(feature = "lanes")]
 pub mod counted_slot;
-#[cfg(feature = "plan")]
+#[cfg(any(feature = "plan", feature = "sched"))]
 pub mod fixed_vec;
 pub mod heap;
 pub mod opaque;
-#[cfg(feature = "dispatch")]
+#[cfg(feature = "lanes")]
 pub mod snapshot;
-#[cfg(any(feature = "dispatch", feature = "regions"))]
+#[cfg(any(feature = "lanes", feature = "regions", feature = "sched"))]
 pub mod sync;
 
 /// The names that are known everywhere in the proved sources.

@@ -1,7 +1,0 @@
-// Made from crates/cubejobs_dispatch/src/opaque_ptr.rt by checks/lib/erase.py. Change that file.
-//! The pointer of a handle to its content on the heap, or to nothing.
-
-use crate::source::cubejobs_dispatch::state::State;
-use crate::source::kit::opaque::Opaque;
-
-pub(crate) type OpaquePtr = Opaque<State>;
