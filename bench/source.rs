@@ -1,7 +1,6 @@
 //! Times calls of the Rust package, in nanoseconds. Each line is a row of calls and its time. `bench/source` compares
 //! the times over the archives and over plain Rust.
 
-use cubejobs::dispatch::Dispatcher;
 use cubejobs::fit::FirstFit;
 use cubejobs::lanes::{Lanes, Sizes};
 use cubejobs::regions;
@@ -70,12 +69,6 @@ fn jobs() {
     row("lanes: a submit and a take", |i| {
         lane.submit(i.into(), 0).unwrap();
         black_box(worker.take_any(0).unwrap());
-    });
-    let shop = Dispatcher::<u64>::new(10, sizes).unwrap();
-    let (mut lane, mut worker) = (shop.lane().unwrap(), shop.worker().unwrap());
-    row("dispatch: a submit, a job with its block, a release", |i| {
-        lane.submit(i.into(), i % 4).unwrap();
-        drop(black_box(worker.try_next().unwrap()));
     });
 }
 

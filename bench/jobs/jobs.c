@@ -1,15 +1,14 @@
-/* Jobs from producers to workers, by one of several systems: `jobs HOW PRODUCERS WORKERS CAPACITY JOBS [check]`.
+/* Jobs from producers to workers, by one of several systems: `jobs HOW PRODUCERS WORKERS CAPACITY JOBS`.
  *
- * The system is a header, which -DSYSTEM names. It has lanes of CAPACITY jobs, one for each producer. With -DBLOCKS it
- * has a machine of 2^10 processors too, and each job runs on a block of 1 to 8 of them, which it has for no time.
+ * The system is a header, which -DSYSTEM names. It has lanes of CAPACITY jobs, one for each producer.
  *
  * Each producer submits JOBS jobs. Each worker takes its share of all. HOW is `threads`, or `alone`: then one thread
- * fills the one lane and takes all jobs, in turn. Who finds no room or no job yields. The program writes the number of
- * jobs to standard output. It writes the nanoseconds on the clock and those of processor time, from the first submit to
- * the last take, to standard error.
+ * fills the one lane and takes all jobs, in turn. A thread that finds no room or no job yields. The program writes the
+ * number of jobs to standard output. It writes the nanoseconds on the clock and those of processor time, from the first
+ * submit to the last take, to standard error.
  *
  * Every job must come out once, as it was submitted, and at each worker the jobs of a producer must be in their order.
- * With `check` no processor may be in two blocks at once: each has a count of its owners. */
+ * */
 #define _GNU_SOURCE
 #include <inttypes.h>
 #include <pthread.h>
@@ -22,13 +21,11 @@
 #include <string.h>
 #include <time.h>
 
-/* Where the searches of bench/peers/twin.h begin. */
-enum begins { AT_FRONT, NEAR_FRONT, SPREAD };
-enum { MAX_PRODUCERS = 64, MAX_TAKERS = 64, DIMENSION = 10, DIMS = 4, LINE_BYTES = 128 };
+enum { MAX_PRODUCERS = 64, MAX_TAKERS = 64, DIMS = 4, LINE_BYTES = 128 };
 
 /* A job as a worker has it. */
 struct job {
-    uint64_t seq, payload, base;
+    uint64_t seq, payload;
     uint32_t lane, dim;
 };
 
@@ -49,8 +46,6 @@ static struct thread {
 static unsigned producer_count, taker_count;
 static pthread_barrier_t start_line;
 
-static bool is_checked;
-
 static uint32_t dim_of(uint64_t seq) {
     return (uint32_t)(seq % DIMS);
 }
@@ -58,36 +53,6 @@ static uint32_t dim_of(uint64_t seq) {
 static uint64_t payload_of(uint64_t lane, uint64_t seq) {
     return lane << 32 | seq;
 }
-
-#ifdef BLOCKS
-
-/* Where owners are counted: how many each processor has. */
-static _Atomic unsigned char owners[1 << DIMENSION];
-
-static void own_block(const struct job *job) {
-    for (uint64_t p = job->base; p < job->base + (UINT64_C(1) << job->dim); p++) {
-        if (p >> DIMENSION != 0 || atomic_fetch_add(&owners[p], 1) != 0) {
-            fail("a processor has two owners");
-        }
-    }
-    for (uint64_t p = job->base; p < job->base + (UINT64_C(1) << job->dim); p++) {
-        atomic_fetch_sub(&owners[p], 1);
-    }
-}
-
-/* Takes a job with a block, and ends it. */
-static bool serve(struct thread *me, struct job *job) {
-    if (!next_job(me->number, job)) {
-        return false;
-    }
-    if (is_checked) {
-        own_block(job);
-    }
-    end_job(me->number);
-    return true;
-}
-
-#else
 
 /* Takes a job of any lane. It looks first in that of its last job. */
 static bool serve(struct thread *me, struct job *job) {
@@ -97,8 +62,6 @@ static bool serve(struct thread *me, struct job *job) {
     me->from = job->lane;
     return true;
 }
-
-#endif
 
 static void *produce(void *thread) {
     struct thread *me = thread;
@@ -200,7 +163,6 @@ int main(int count, char **words) {
     }
     producer_count = number_of(words[2], MAX_PRODUCERS), taker_count = number_of(words[3], MAX_TAKERS);
     uint64_t capacity = number_of(words[4], 1024), each = number_of(words[5], 1 << 24);
-    is_checked = count > 6 && strcmp(words[6], "check") == 0;
     open_system(producer_count, taker_count, capacity);
     for (unsigned i = 0; i < producer_count; i++) {
         producers[i].number = i;

@@ -2,19 +2,15 @@
 //!
 //! A job is a number and a dimension. Each producer puts in JOBS jobs. KIND is `twin` (a lane of CAPACITY for each
 //! producer), `array` (crossbeam's ArrayQueue), `channel` (its bounded channel), or `mutex` (a `Mutex<VecDeque>`), which
-//! are one queue of CAPACITY for all. With `blocks` it is an ArrayQueue too, and each job runs on a block of 1 to 8 of
-//! 1,024 processors by an exact first fit under a mutex. Who finds a queue full or empty yields. The time from the first
-//! put to the last take is written to standard error, in nanoseconds on the clock and of processor time. Every job must
-//! come out once, and at each consumer the jobs of a producer must come in their order. The number of jobs is written to
-//! standard output.
+//! are one queue of CAPACITY for all. Who finds a queue full or empty yields. The time from the first put to the last take
+//! is written to standard error, in nanoseconds on the clock and of processor time. Every job must come out once, and at
+//! each consumer the jobs of a producer must come in their order. The number of jobs is written to standard output.
 //!
 //! With the word `touched`, the room for the jobs that consumers take is written before. With `alone` one thread puts in
-//! CAPACITY jobs and takes them, in turn. With `check` no processor may be in two blocks at once.
+//! CAPACITY jobs and takes them, in turn.
 
-mod bits;
 mod twin;
 
-use bits::Blocks;
 use std::collections::VecDeque;
 use std::sync::Mutex;
 use std::thread;
@@ -125,36 +121,6 @@ impl Queue for Locked {
         self.0.lock().unwrap().pop_front()
     }
 }
-
-/// A queue of jobs, each of which has a block while a consumer has it.
-struct WithBlocks(crossbeam_queue::ArrayQueue<(u64, u32)>, Blocks);
-
-impl Queue for WithBlocks {
-    type Producer = ();
-    type Consumer = ();
-    fn producer(&self, _: usize) {}
-    fn consumer(&self, _: usize) {}
-
-    fn put(&self, _: &mut (), payload: u64, dim: u32) -> bool {
-        self.0.push((payload, dim)).is_ok()
-    }
-
-    fn take(&self, _: &mut ()) -> Option<(u64, u32)> {
-        let (payload, dim) = self.0.pop()?;
-        let k = dim % DIMS;
-        let base = loop {
-            match self.1.take(k) {
-                Some(base) => break base,
-                None => thread::yield_now(),
-            }
-        };
-        self.1.release(base, k);
-        Some((payload, dim))
-    }
-}
-
-/// The dimensions of blocks are below this one.
-const DIMS: u32 = 4;
 
 /// What is to be run: the numbers of the command line.
 #[derive(Clone, Copy)]
@@ -285,7 +251,6 @@ fn main() {
             let (sender, receiver) = crossbeam_channel::bounded(capacity);
             run(&Channel(sender, receiver), sizes);
         }
-        "blocks" => run(&WithBlocks(crossbeam_queue::ArrayQueue::new(capacity), Blocks::new(has("check"))), sizes),
         "mutex" => run(&Locked(Mutex::new(VecDeque::with_capacity(capacity)), sizes.capacity), sizes),
         kind => panic!("no kind {kind}"),
     }

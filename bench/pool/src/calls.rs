@@ -3,6 +3,7 @@
 use crate::table::{each, load, median};
 use cubejobs::lanes::{Lanes, Sizes};
 use cubejobs::regions::Machine;
+use std::sync::Mutex;
 use std::time::Instant;
 
 const CALLS: usize = 100_000;
@@ -25,14 +26,14 @@ pub fn measure(rounds: usize) {
         let sizes = Sizes { lanes: 5 + count, workers: count, capacity: 1024 };
         let lanes = Lanes::<u64>::new(sizes).unwrap();
         let mut worker = lanes.worker().unwrap();
-        let (mut own, mut shared) = (lanes.lane().unwrap(), lanes.lane().unwrap().into_shared().unwrap());
+        let (mut own, shared) = (lanes.lane().unwrap(), Mutex::new(lanes.lane().unwrap()));
         println!("  lanes of {name}:");
         show("submit, with the wake, and find", rounds, || {
             own.submit(7, 0).unwrap();
             let _ = worker.find(0);
         });
-        show("submit to a shared lane, and find", rounds, || {
-            shared.submit(7, 0).unwrap();
+        show("submit to a lane under a lock, and find", rounds, || {
+            shared.lock().unwrap().submit(7, 0).unwrap();
             let _ = worker.find(1);
         });
         show("submit and take", rounds, || {
