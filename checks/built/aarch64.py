@@ -114,15 +114,17 @@ def must_be_as_here(folder, built, words):
 
 def programs():
     """Yields C programs over the libraries, which must end well."""
-    fit, plan, dispatch, rounds, regions = archive.LIBRARIES
+    fit, plan, sched, lanes, rounds, regions = archive.LIBRARIES
     for name, library, words in (("fit", fit, ["2000", "1000"]), ("rounds", rounds, []),
-                                 ("regions", regions, ["500"]), ("wait", regions, ["100"]), ("lanes", dispatch, ["500"]),
-                                 ("dispatch", dispatch, ["500"]), ("asleep", dispatch, ["300"]), ("jobs", dispatch, ["2000"])):
+                                 ("regions", regions, ["500"]), ("wait", regions, ["100"]), ("lanes", lanes, ["500"]),
+                                 ("asleep", lanes, ["300"]), ("jobs", lanes, ["2000"]),
+                                 ("sched", sched, ["one"]), ("sched", sched, ["crowd", "1", "4", "8", "2000"])):
         yield ffi.Program(ffi.CALLS(name), [library], C, (), words, [EMULATOR])
     # Not examples/fit.c: the emulator has no robust locks. There the lock of a process that died stays locked for ever.
-    for name, library in (("rounds", rounds), ("plan", plan), ("regions", regions), ("arena", regions), ("wait", regions), ("lanes", dispatch)):
+    for name, library in (("rounds", rounds), ("plan", plan), ("sched", sched), ("regions", regions), ("arena", regions),
+                          ("wait", regions), ("lanes", lanes)):
         yield ffi.Program(f"examples/{name}.c", [library], C, (), (), [EMULATOR], f"examples/{name}.out")
-    yield ffi.Program("examples/jobs.cpp", [dispatch], CXX, (), (), [EMULATOR], "examples/jobs.out")
+    yield ffi.Program("examples/lanes.cpp", [lanes], CXX, (), (), [EMULATOR], "examples/lanes.out")
 
 
 def needs_no_later_library(folder):
@@ -150,7 +152,7 @@ def rows(folder):
     yield Row("the examples in Rust on aarch64", in_rust, (folder,))
     yield Row("the C library that is needed", needs_no_later_library, (folder,))
     for program in programs():
-        yield Row(f"{program.source} on aarch64", ffi.must_run, (folder, program))
+        yield Row(" ".join([program.source, *program.words, "on aarch64"]), ffi.must_run, (folder, program))
     built = path("crates", PROGRAM, "out", PROGRAM)
     built = built if os.path.exists(built) else os.path.join(release.RELEASE, "cubejobs")
     examples = path("examples")
@@ -165,7 +167,7 @@ def rows(folder):
 def renew(folder):
     for name in release.FILES:
         put(os.path.join(RELEASE, name), read_bytes(folder, name), 0o755 if name == "cubejobs" else 0o644)
-    for name in release.LIBRARIES:
+    for name in release.COPIES:
         put(os.path.join(release.RUST, "aarch64", name), read_bytes(RELEASE, name))
     held = release.Release(RELEASE)
     held.write_sums(version.of_sources(), release.build_here(), f"# linked with {packages()}")

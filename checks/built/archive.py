@@ -1,6 +1,6 @@
-"""Makes the libraries for C as they are shipped, each one file to link: `checks/run archive FOLDER` writes
-libcubejobs_fit.a, libcubejobs_plan.a, libcubejobs_dispatch.a, libcubejobs_rounds.a and libcubejobs_regions.a there, from
-what stands in the folders `out` of their crates. Of each it makes a shared object too, libcubejobs_fit.so and so on.
+"""Makes the libraries for C as they are shipped, each one file to link: `checks/run archive FOLDER` writes an archive for
+each of LIBRARIES there, libcubejobs_fit.a and so on, from what stands in the folders `out` of their crates. Of each it
+makes a shared object too, libcubejobs_fit.so and so on.
 
 A library that asks for memory gets the allocator of the toolchain, three functions round malloc, realloc and free. Of
 what a file defines, the functions of its header alone stay visible, so a program can link it beside another library of
@@ -20,7 +20,7 @@ from checks.lib.rows import Wrong, must, put
 from checks.lib.toolchain import kit
 from checks.source import version
 
-LIBRARIES = ("cubejobs_fit", "cubejobs_plan", "cubejobs_dispatch", "cubejobs_rounds", "cubejobs_regions")
+LIBRARIES = ("cubejobs_fit", "cubejobs_plan", "cubejobs_sched", "cubejobs_lanes", "cubejobs_rounds", "cubejobs_regions")
 # What the names of the headers' functions begin with.
 OWN = b"cubejobs_"
 SYMBOL = struct.Struct("<IBBHQQ")

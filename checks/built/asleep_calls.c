@@ -1,7 +1,7 @@
 /* Calls the workers of the library for jobs that sleep, from C or C++: each code where it must come, then two threads that
- * sleep and are woken, by lanes and by a dispatcher. Each worker's thread parks on its own condition. With `asleep_calls
- * JOBS` the producer submits JOBS jobs to each. */
-#include "cubejobs_dispatch.h"
+ * sleep and are woken. Each worker's thread parks on its own condition. With `asleep_calls JOBS` the producer submits JOBS
+ * jobs. */
+#include "cubejobs_lanes.h"
 
 #include <pthread.h>
 #include <sched.h>
@@ -17,8 +17,8 @@ static void want(int line, uint64_t got, uint64_t wanted) {
     expect_at("asleep_calls.c", line, got == wanted, "another answer");
 }
 #define WANT(got, wanted) want(__LINE__, (got), (wanted))
-#define IS(got, code) want(__LINE__, (got), CUBEJOBS_DISPATCH_##code)
-#define NONE CUBEJOBS_DISPATCH_NO_WORKER
+#define IS(got, code) want(__LINE__, (got), CUBEJOBS_LANES_##code)
+#define NONE CUBEJOBS_LANES_NO_WORKER
 
 static void want_found(int line, struct cubejobs_find_answer got, uint32_t code, uint32_t lane, uint32_t k, uint32_t woken,
                        uint64_t seq, uint64_t payload, uint64_t left) {
@@ -28,44 +28,28 @@ static void want_found(int line, struct cubejobs_find_answer got, uint32_t code,
     for (i = 0; i < 7; i++) want(line, found[i], wanted[i]);
 }
 #define FINDS(got, lane, k, woken, seq, payload, left) \
-    want_found(__LINE__, (got), CUBEJOBS_DISPATCH_DONE, lane, k, woken, seq, payload, left)
-#define FINDS_NONE(got, code) want_found(__LINE__, (got), CUBEJOBS_DISPATCH_##code, 0, 0, NONE, 0, 0, 0)
-
-static void want_work(int line, struct cubejobs_work_find_answer got, uint32_t code, uint32_t lane, uint32_t k, uint32_t woken,
-                      uint64_t base, uint64_t seq, uint64_t payload) {
-    const uint64_t found[] = {got.code, got.lane, got.dim, got.woken, got.base, got.seq, got.payload};
-    const uint64_t wanted[] = {code, lane, k, woken, base, seq, payload};
-    unsigned i;
-    for (i = 0; i < 7; i++) want(line, found[i], wanted[i]);
-}
-#define WORKS(got, lane, k, woken, base, seq, payload) \
-    want_work(__LINE__, (got), CUBEJOBS_DISPATCH_DONE, lane, k, woken, base, seq, payload)
-#define WORKS_NONE(got, code) want_work(__LINE__, (got), CUBEJOBS_DISPATCH_##code, 0, 0, NONE, 0, 0, 0)
+    want_found(__LINE__, (got), CUBEJOBS_LANES_DONE, lane, k, woken, seq, payload, left)
+#define FINDS_NONE(got, code) want_found(__LINE__, (got), CUBEJOBS_LANES_##code, 0, 0, NONE, 0, 0, 0)
 
 static void wakes(int line, struct cubejobs_wake_answer got, uint32_t code, uint32_t worker) {
     want(line, got.code, code), want(line, got.worker, worker);
 }
-#define WAKES(got, worker) wakes(__LINE__, (got), CUBEJOBS_DISPATCH_DONE, worker)
-#define WAKES_NONE(got, code) wakes(__LINE__, (got), CUBEJOBS_DISPATCH_##code, 0)
+#define WAKES(got, worker) wakes(__LINE__, (got), CUBEJOBS_LANES_DONE, worker)
+#define WAKES_NONE(got, code) wakes(__LINE__, (got), CUBEJOBS_LANES_##code, 0)
 
 static void numbered(int line, struct cubejobs_number_answer got, uint32_t code, uint32_t number) {
     want(line, got.code, code), want(line, got.number, number);
 }
-#define NUMBER(got, code, number) numbered(__LINE__, (got), CUBEJOBS_DISPATCH_##code, number)
+#define NUMBER(got, code, number) numbered(__LINE__, (got), CUBEJOBS_LANES_##code, number)
 
 /* A handle that is of no worker and no producer: nothing is done, and nothing changes. */
 static void no_handle(void *bytes, uint32_t code) {
     struct cubejobs_lanes before = *(struct cubejobs_lanes *)bytes;
     struct cubejobs_worker *worker = (struct cubejobs_worker *)bytes;
-    struct cubejobs_shop_worker *one = (struct cubejobs_shop_worker *)bytes;
     want_found(__LINE__, cubejobs_lanes_find(worker, 0), code, 0, 0, NONE, 0, 0, 0);
     WANT(cubejobs_lanes_awake(worker), code);
     numbered(__LINE__, cubejobs_lanes_worker_number(worker), code, 0);
     wakes(__LINE__, cubejobs_lanes_wake((struct cubejobs_lane *)bytes), code, 0);
-    want_work(__LINE__, cubejobs_dispatch_find(one), code, 0, 0, NONE, 0, 0, 0);
-    WANT(cubejobs_dispatch_awake(one), code);
-    numbered(__LINE__, cubejobs_dispatch_worker_number(one), code, 0);
-    wakes(__LINE__, cubejobs_dispatch_wake((struct cubejobs_shop_lane *)bytes), code, 0);
     WANT(memcmp(&before, bytes, sizeof before), 0);
 }
 
@@ -75,12 +59,12 @@ static void codes_of_lanes(void) {
     static struct cubejobs_lane lane;
     static struct cubejobs_worker one, two;
     struct cubejobs_lanes shut = {0, 0};
-    no_handle(&shut, CUBEJOBS_DISPATCH_NOT_OPEN);
+    no_handle(&shut, CUBEJOBS_LANES_NOT_OPEN);
     IS(cubejobs_lanes_open(&made, 1, 2, 4), DONE);
     IS(cubejobs_lanes_lane(&made, &lane), DONE);
     IS(cubejobs_lanes_worker(&made, &one), DONE);
     IS(cubejobs_lanes_worker(&made, &two), DONE);
-    no_handle(&made, CUBEJOBS_DISPATCH_OTHER_KIND);
+    no_handle(&made, CUBEJOBS_LANES_OTHER_KIND);
     FINDS_NONE(cubejobs_lanes_find((struct cubejobs_worker *)&lane, 0), OTHER_KIND);
     WAKES_NONE(cubejobs_lanes_wake((struct cubejobs_lane *)&one), OTHER_KIND);
     NUMBER(cubejobs_lanes_worker_number(&one), DONE, 0);
@@ -165,106 +149,6 @@ static void names_of_workers(uint32_t near, uint32_t far) {
     IS(cubejobs_lanes_free(&made), DONE);
 }
 
-/* One thread, with a shared lane and two workers, of which one sleeps: each code of a wake by a producer of a shared lane, but
- * BUSY. */
-static void codes_of_shared(void) {
-    static struct cubejobs_lanes made;
-    static struct cubejobs_lane lane;
-    static struct cubejobs_shared_lane shared, other;
-    static struct cubejobs_worker awake, worker;
-    WAKES_NONE(cubejobs_lanes_wake_shared(&shared), NOT_OPEN);
-    IS(cubejobs_lanes_open(&made, 1, 2, 2), DONE);
-    IS(cubejobs_lanes_lane(&made, &lane), DONE);
-    IS(cubejobs_lanes_worker(&made, &awake), DONE);
-    IS(cubejobs_lanes_worker(&made, &worker), DONE);
-    WAKES_NONE(cubejobs_lanes_wake_shared((struct cubejobs_shared_lane *)&worker), OTHER_KIND);
-    IS(cubejobs_lanes_share(&lane, &shared), DONE);
-    IS(cubejobs_lanes_share_again(&shared, &other), DONE);
-    FINDS_NONE(cubejobs_lanes_find(&worker, 0), PARK);
-    WAKES_NONE(cubejobs_lanes_wake_shared(&shared), NOBODY);
-    IS(cubejobs_lanes_submit_shared(&other, 70, 1).code, DONE);
-    WAKES(cubejobs_lanes_wake_shared(&other), 1);
-    WAKES_NONE(cubejobs_lanes_wake_shared(&shared), NOBODY);
-    IS(cubejobs_lanes_awake(&worker), DONE);
-    FINDS(cubejobs_lanes_find(&worker, 0), 0, 1, NONE, 0, 70, 0);
-    IS(cubejobs_lanes_free_shared(&shared), DONE);
-    IS(cubejobs_lanes_free_shared(&other), DONE);
-    IS(cubejobs_lanes_free_worker(&worker), DONE);
-    IS(cubejobs_lanes_free_worker(&awake), DONE);
-    WANT(cubejobs_lanes_close(&made).accepted, 1);
-    IS(cubejobs_lanes_finish(&made).code, DONE);
-    IS(cubejobs_lanes_free(&made), DONE);
-}
-
-/* One thread, with a lane of four jobs and two workers on a machine of four processors: each code of a dispatcher. */
-static void codes_of_dispatch(void) {
-    static struct cubejobs_dispatch made;
-    static struct cubejobs_shop_lane lane;
-    static struct cubejobs_shop_worker one, two;
-    struct cubejobs_work_find_answer first, second;
-    IS(cubejobs_dispatch_open(&made, 2, 1, 2, 4), DONE);
-    IS(cubejobs_dispatch_lane(&made, &lane), DONE);
-    IS(cubejobs_dispatch_worker(&made, &one), DONE);
-    IS(cubejobs_dispatch_worker(&made, &two), DONE);
-    no_handle(&made, CUBEJOBS_DISPATCH_OTHER_KIND);
-    WORKS_NONE(cubejobs_dispatch_find((struct cubejobs_shop_worker *)&lane), OTHER_KIND);
-    NUMBER(cubejobs_dispatch_worker_number(&one), DONE, 0);
-    NUMBER(cubejobs_dispatch_worker_number(&two), DONE, 1);
-    IS(cubejobs_dispatch_awake(&one), DONE);
-    /* A worker that runs a job does not sleep. */
-    IS(cubejobs_dispatch_submit(&lane, 70, 2).code, DONE);
-    WAKES_NONE(cubejobs_dispatch_wake(&lane), NOBODY);
-    WORKS(cubejobs_dispatch_find(&one), 0, 2, NONE, 0, 0, 70);
-    WORKS_NONE(cubejobs_dispatch_find(&one), RUNS_JOB);
-    IS(cubejobs_dispatch_awake(&one), DONE);
-    NUMBER(cubejobs_dispatch_worker_number(&one), DONE, 0);
-    /* The other keeps a job for which there is no block. It does not sleep. */
-    IS(cubejobs_dispatch_submit(&lane, 71, 2).code, DONE);
-    WORKS_NONE(cubejobs_dispatch_find(&two), NO_REGION);
-    WORKS_NONE(cubejobs_dispatch_find(&two), NO_REGION);
-    IS(cubejobs_dispatch_free_worker(&two), KEEPS_JOB);
-    IS(cubejobs_dispatch_done(&one), DONE);
-    WORKS(cubejobs_dispatch_find(&two), 0, 2, NONE, 0, 1, 71);
-    IS(cubejobs_dispatch_done(&two), DONE);
-    /* Both lie down. */
-    WORKS_NONE(cubejobs_dispatch_find(&one), PARK);
-    WORKS_NONE(cubejobs_dispatch_find(&one), PARK);
-    WORKS_NONE(cubejobs_dispatch_find(&two), PARK);
-    IS(cubejobs_dispatch_awake(&one), PARK);
-    NUMBER(cubejobs_dispatch_worker_number(&one), DONE, 0);
-    IS(cubejobs_dispatch_next(&one).code, ASLEEP);
-    IS(cubejobs_dispatch_done(&one), ASLEEP);
-    IS(cubejobs_dispatch_give_back(&one).code, ASLEEP);
-    IS(cubejobs_dispatch_free_worker(&one), ASLEEP);
-    /* Two jobs: the first wakes one worker, which wakes the other. */
-    IS(cubejobs_dispatch_submit(&lane, 72, 1).code, DONE);
-    WAKES(cubejobs_dispatch_wake(&lane), 0);
-    IS(cubejobs_dispatch_submit(&lane, 73, 1).code, DONE);
-    WAKES_NONE(cubejobs_dispatch_wake(&lane), NOBODY);
-    IS(cubejobs_dispatch_awake(&two), PARK);
-    IS(cubejobs_dispatch_awake(&one), DONE);
-    first = cubejobs_dispatch_find(&one);
-    WORKS(first, 0, 1, 1, first.base, 2, 72);
-    IS(cubejobs_dispatch_awake(&two), DONE);
-    second = cubejobs_dispatch_find(&two);
-    WORKS(second, 0, 1, NONE, 2 - first.base, 3, 73);
-    IS(cubejobs_dispatch_done(&one), DONE);
-    IS(cubejobs_dispatch_done(&two), DONE);
-    /* A close wakes both. */
-    WORKS_NONE(cubejobs_dispatch_find(&one), PARK);
-    WORKS_NONE(cubejobs_dispatch_find(&two), PARK);
-    WANT(cubejobs_dispatch_close(&made).accepted, 4);
-    IS(cubejobs_dispatch_awake(&one), DONE);
-    IS(cubejobs_dispatch_awake(&two), DONE);
-    WORKS_NONE(cubejobs_dispatch_find(&one), ENDED);
-    WORKS_NONE(cubejobs_dispatch_find(&two), ENDED);
-    IS(cubejobs_dispatch_free_worker(&one), DONE);
-    IS(cubejobs_dispatch_free_worker(&two), DONE);
-    IS(cubejobs_dispatch_free_lane(&lane), DONE);
-    IS(cubejobs_dispatch_finish(&made).code, DONE);
-    IS(cubejobs_dispatch_free(&made), DONE);
-}
-
 /* Where the threads of two workers park. A thread is woken at least once after each call of `wake`. */
 struct place {
     pthread_mutex_t lock;
@@ -294,124 +178,87 @@ static void park(uint32_t worker) {
 static struct cubejobs_lanes lanes;
 static struct cubejobs_lane producer;
 static struct cubejobs_worker workers[WORKERS];
-static struct cubejobs_dispatch shop;
-static struct cubejobs_shop_lane shop_producer;
-static struct cubejobs_shop_worker shop_workers[WORKERS];
 
 static void *take_jobs(void *number) {
     unsigned w = *(unsigned *)number;
     for (;;) {
         struct cubejobs_find_answer got = cubejobs_lanes_find(&workers[w], 0);
         wake(got.woken);
-        if (got.code == CUBEJOBS_DISPATCH_ENDED) return NULL;
-        if (got.code == CUBEJOBS_DISPATCH_DONE) {
+        if (got.code == CUBEJOBS_LANES_ENDED) return NULL;
+        if (got.code == CUBEJOBS_LANES_DONE) {
             WANT(*(unsigned long *)(uintptr_t)got.payload, got.seq);
             taken[w]++;
-        } else if (got.code == CUBEJOBS_DISPATCH_PARK) {
-            while (cubejobs_lanes_awake(&workers[w]) == CUBEJOBS_DISPATCH_PARK) park(w);
+        } else if (got.code == CUBEJOBS_LANES_PARK) {
+            while (cubejobs_lanes_awake(&workers[w]) == CUBEJOBS_LANES_PARK) park(w);
         } else {
             IS(got.code, AGAIN);
         }
     }
 }
 
-static void *run_jobs(void *number) {
-    unsigned w = *(unsigned *)number;
-    for (;;) {
-        struct cubejobs_work_find_answer got = cubejobs_dispatch_find(&shop_workers[w]);
-        wake(got.woken);
-        if (got.code == CUBEJOBS_DISPATCH_ENDED) return NULL;
-        if (got.code == CUBEJOBS_DISPATCH_DONE) {
-            WANT(*(unsigned long *)(uintptr_t)got.payload, got.seq);
-            taken[w]++;
-            IS(cubejobs_dispatch_done(&shop_workers[w]), DONE);
-        } else if (got.code == CUBEJOBS_DISPATCH_PARK) {
-            while (cubejobs_dispatch_awake(&shop_workers[w]) == CUBEJOBS_DISPATCH_PARK) park(w);
-        } else {
-            expect(got.code == CUBEJOBS_DISPATCH_AGAIN || got.code == CUBEJOBS_DISPATCH_NO_REGION
-                       || got.code == CUBEJOBS_DISPATCH_OLDER_JOB, "another code");
-            sched_yield();
-        }
-    }
-}
-
-/* Submits the jobs to a producer of lanes, or of a dispatcher, with pauses in which the workers lie down. */
-static void submit_all(int to_shop, unsigned long *cargo) {
+/* Submits the jobs, with pauses in which the workers lie down. */
+static void submit_all(unsigned long *cargo) {
     unsigned long i;
     for (i = 0; i < jobs; i++) {
         struct cubejobs_wake_answer woken;
-        uint64_t payload = (uint64_t)(uintptr_t)&cargo[i];
+        struct cubejobs_submit_answer got;
         cargo[i] = i;
-        for (;;) {
-            struct cubejobs_submit_answer got = to_shop ? cubejobs_dispatch_submit(&shop_producer, payload, i % 3)
-                                                        : cubejobs_lanes_submit(&producer, payload, 0);
-            if (got.code == CUBEJOBS_DISPATCH_DONE) break;
+        while ((got = cubejobs_lanes_submit(&producer, (uint64_t)(uintptr_t)&cargo[i], 0)).code) {
             IS(got.code, FULL);
             sched_yield();
         }
         do {
-            woken = to_shop ? cubejobs_dispatch_wake(&shop_producer) : cubejobs_lanes_wake(&producer);
-        } while (woken.code == CUBEJOBS_DISPATCH_AGAIN);
-        if (woken.code == CUBEJOBS_DISPATCH_DONE) wake(woken.worker);
+            woken = cubejobs_lanes_wake(&producer);
+        } while (woken.code == CUBEJOBS_LANES_AGAIN);
+        if (woken.code == CUBEJOBS_LANES_DONE) wake(woken.worker);
         if (i % 8 == 0) sched_yield();
     }
 }
 
 /* Returns how often a thread parked. */
-static unsigned long threads(int to_shop) {
+static unsigned long threads(void) {
     pthread_t thread[WORKERS];
     unsigned long *cargo = (unsigned long *)calloc(jobs, sizeof *cargo);
     unsigned w;
     expect(cargo != NULL, "no memory");
-    if (to_shop) IS(cubejobs_dispatch_open(&shop, 2, 1, WORKERS, 16), DONE), IS(cubejobs_dispatch_lane(&shop, &shop_producer), DONE);
-    else IS(cubejobs_lanes_open(&lanes, 1, WORKERS, 16), DONE), IS(cubejobs_lanes_lane(&lanes, &producer), DONE);
+    IS(cubejobs_lanes_open(&lanes, 1, WORKERS, 16), DONE), IS(cubejobs_lanes_lane(&lanes, &producer), DONE);
     for (w = 0; w < WORKERS; w++) {
         places[w].woken = 0, taken[w] = 0, parked[w] = 0;
         pthread_mutex_init(&places[w].lock, NULL), pthread_cond_init(&places[w].changed, NULL);
-        if (to_shop) IS(cubejobs_dispatch_worker(&shop, &shop_workers[w]), DONE);
-        else IS(cubejobs_lanes_worker(&lanes, &workers[w]), DONE);
-        expect(!pthread_create(&thread[w], NULL, to_shop ? run_jobs : take_jobs, &numbers[w]), "no thread");
+        IS(cubejobs_lanes_worker(&lanes, &workers[w]), DONE);
+        expect(!pthread_create(&thread[w], NULL, take_jobs, &numbers[w]), "no thread");
     }
-    submit_all(to_shop, cargo);
-    WANT(to_shop ? cubejobs_dispatch_close(&shop).accepted : cubejobs_lanes_close(&lanes).accepted, jobs);
+    submit_all(cargo);
+    WANT(cubejobs_lanes_close(&lanes).accepted, jobs);
     for (w = 0; w < WORKERS; w++) wake(w);
     for (w = 0; w < WORKERS; w++) {
         pthread_join(thread[w], NULL);
-        if (to_shop) IS(cubejobs_dispatch_free_worker(&shop_workers[w]), DONE);
-        else IS(cubejobs_lanes_free_worker(&workers[w]), DONE);
+        IS(cubejobs_lanes_free_worker(&workers[w]), DONE);
     }
     WANT(taken[0] + taken[1], jobs);
-    if (to_shop) {
-        IS(cubejobs_dispatch_free_lane(&shop_producer), DONE);
-        IS(cubejobs_dispatch_finish(&shop).code, DONE), IS(cubejobs_dispatch_free(&shop), DONE);
-    } else {
-        IS(cubejobs_lanes_free_lane(&producer), DONE);
-        IS(cubejobs_lanes_finish(&lanes).code, DONE), IS(cubejobs_lanes_free(&lanes), DONE);
-    }
+    IS(cubejobs_lanes_free_lane(&producer), DONE);
+    IS(cubejobs_lanes_finish(&lanes).code, DONE), IS(cubejobs_lanes_free(&lanes), DONE);
     free(cargo);
     return parked[0] + parked[1];
 }
 
 /* Makes such crowds until a thread has parked: on a busy machine a worker may always find a job. */
-static void threads_park(int to_shop) {
+static void threads_park(void) {
     unsigned crowds = 100;
-    while (crowds > 0 && threads(to_shop) == 0) crowds--;
+    while (crowds > 0 && threads() == 0) crowds--;
     expect(crowds > 0, "no thread parked");
 }
 
 int main(int count, char **words) {
     uint32_t code;
     if (count > 1) jobs = strtoul(words[1], NULL, 10);
-    for (code = CUBEJOBS_DISPATCH_NOBODY; code <= CUBEJOBS_DISPATCH_ASLEEP; code++)
+    for (code = CUBEJOBS_LANES_NOBODY; code <= CUBEJOBS_LANES_ASLEEP; code++)
         expect(strcmp(cubejobs_code_text(code), cubejobs_code_text(1000)), "a code without a text");
     codes_of_lanes();
     names_of_workers(1, 2);
     names_of_workers(62, 63);
     names_of_workers(40, 70);
-    codes_of_shared();
-    codes_of_dispatch();
-    threads_park(0);
-    threads_park(1);
-    printf("%lu jobs by workers that sleep, each once\n", 2 * jobs);
+    threads_park();
+    printf("%lu jobs by workers that sleep, each once\n", jobs);
     return 0;
 }

@@ -11,10 +11,11 @@ from checks.lib.rows import answer, comes, must, must_answer, put
 
 JOBS, SECONDS = "examples/batch.jobs", 60
 # Files, and the number of the first line that is no job.
-WRONG = (("2 x\n", 1), ("5 1\n", 1), ("1 2\n-1 3\n", 2), ("1 -3\n", 1), ("1\n", 1), ("1 2 3\n", 1), ("0 1\n\n0 1\n", 2),
-         ("1 99999999999\n", 1), ("4294967296 1\n", 1), ("jobs\n", 1), ("0 1\n0 1" + " " * 100 + "2\n", 2))
-# The last jobs fill the machine, so that workers wait for a block.
-LONG = "".join(f"{it % 3} {1 + it % 7}\n" for it in range(100)) + "4 100\n" * 400
+WRONG = (("2 x\n", 1), ("0 1\n", 1), ("17 1\n", 1), ("1 2\n-1 3\n", 2), ("1 -3\n", 1), ("1\n", 1), ("1 2 3\n", 1),
+         ("1 1\n\n1 1\n", 2), ("1 99999999999\n", 1), ("4294967296 1\n", 1), ("jobs\n", 1),
+         ("1 1\n1 1" + " " * 100 + "2\n", 2))
+# The last jobs fill the machine, so that others wait while one runs.
+LONG = "".join(f"{1 + it % 5} {1 + it % 7}\n" for it in range(100)) + "16 100\n" * 400
 
 
 def must_run_all(words, text, file):
@@ -53,11 +54,11 @@ def must_stop(words, after, signals, file):
 def must_work(room, program):
     """Builds a scheduler, and runs it."""
     words, file = program.make(room), f"{room}/jobs"
-    for text in (read(JOBS), "", "1 2\n0 1", "".join(f"{it % 5} 0\n" for it in range(3000))):
+    for text in (read(JOBS), "", "1 2\n16 1", "".join(f"{1 + it % 16} 0\n" for it in range(3000))):
         must_run_all(words, text, file)
     for text, line in WRONG:
         put(file, text)
-        must_refuse([*words, file], f"{file}:{line}: not a dimension".encode())
+        must_refuse([*words, file], f"{file}:{line}: not processors".encode())
     for more, said in (([], b"usage"), ([f"{room}/none"], f"{room}/none: ".encode()), ([room], f"{room}: ".encode()),
                        ([path(JOBS), path(JOBS)], b"usage")):
         must_refuse([*words, *more], said)

@@ -31,7 +31,7 @@ from checks.lib.rows import Row, Skipped, answer, must, run_rows
 CALLS, MANY, ROUNDS, SECONDS = 100_000, 1_000_000, 16_000, 1800
 PROGRAM, RACE, RELEASE = "checks/built/beside.rs", "checks/built/race.rs", "release/linux-x86_64"
 WORDS = ["--edition", "2021", "-Coverflow-checks=on", "-Cdebug-assertions=on", "-O"]
-FEATURES = [f'--cfg=feature="{it}"' for it in ("dispatch", "plan", "regions", "std")]
+FEATURES = [f'--cfg=feature="{it}"' for it in ("lanes", "plan", "regions", "sched", "std")]
 
 
 WATCHED = ["+nightly", "-Zsanitizer=thread", "-Cunsafe-allow-abi-mismatch=sanitizer"]
@@ -52,7 +52,7 @@ console.log(BigInt.asUintN(64, instance.exports.selftest()).toString());"""
 
 # The driver, what it uses, and how many steps its interpreter makes at most.
 DRIVER, STEPS = "checks/built/driver", 5 * 10**9
-USED = "bitmap_occupancy bitmap_tree collectives cube_shape cubejobs_fit fit_tree job_lanes rank_steps region_shop wake_calls"
+USED = "bitmap_occupancy bitmap_tree collectives cube_shape cubejobs_fit fit_tree job_lanes rank_steps wake_calls"
 
 
 class Slip(NamedTuple):
@@ -80,16 +80,14 @@ SLIPS = (
     Slip("a lane takes a job more", "job_lanes/submits.rs", "count - taken < self.plan", "count - taken <= self.plan"),
     Slip("a worker that sleeps is not noticed", "wake_calls/steps.rs", "SEARCH {\n        return Noticed",
          "1 {\n        return Noticed"),
-    Slip("a passed job does not age", "region_shop/ageing.rs", "        word + 1\n    } else {\n        word\n",
-         "        word\n    } else {\n        word\n"),
-    Slip("a shared lane is not given back", "cubejobs_dispatch/share.rs", "        self.let_go();\n", ""),
     Slip("an end that is late is not known", "sched_core/small.rs", "now.saturating_add(estimate)", "now.wrapping_add(estimate)"),
+    Slip("a closed scheduler takes jobs", "sched_board/board.rs", "            return Err(BoardRefusal::Closed);\n", ""),
     Slip("the whole machine is refused", "cubejobs_fit/faults.rs", "fault == DONE && k > n", "fault == DONE && k >= n"),
 )
 
 # Those that the driver must see. It does not call what the others are in, or has one thread, which does not meet them.
 SEEN = [it for it in SLIPS if it.name not in (
-    "the swap returns the new word", "a slot stays taken", "a shared lane is not given back", "an end that is late is not known")]
+    "the swap returns the new word", "a slot stays taken", "an end that is late is not known", "a closed scheduler takes jobs")]
 
 
 def built(root, folder, source=PROGRAM, more=()):
@@ -237,7 +235,7 @@ def compiler_for(target, *tools):
 
 def self_test(compiler, form, runner, *words):
     """Builds and runs the self-test over a form of the package. Returns the number that it gives."""
-    features = [f'--cfg=feature="{it}"' for it in ("dispatch", "plan", "regions", *form)]
+    features = [f'--cfg=feature="{it}"' for it in ("lanes", "plan", "regions", *form)]
     features += [] if form else ["--cfg=cubejobs_archives"]
     with tempfile.TemporaryDirectory() as folder:
         library, program = f"{folder}/libcubejobs.rlib", f"{folder}/selftest"
@@ -303,7 +301,7 @@ def main(words):
         rows += [Row(f"by the driver: {it.name}", prints_another, (STEPS if is_long else 1, it)) for it in SEEN
                  if not names or it.name in names]
     if is_long:
-        for what in ("blocks", "lanes", "dispatch"):
+        for what in ("blocks", "lanes"):
             rows.append(Row(f"no race beside {what}", watched, (what, [])))
             rows.append(Row(f"a race beside {what} is seen if orders are relaxed", watched, (what, RELAXED)))
         rows += [Row(f"the tests on {target[0]}", runs_on, target) for target in TARGETS]

@@ -5,12 +5,12 @@
 
 extern crate alloc;
 
-#[path = "../../rust/src/dispatch_ffi.rs"]
-mod dispatch_ffi;
 #[path = "../../rust/src/fit_ffi.rs"]
 mod fit_ffi;
 #[path = "../../rust/src/over/fit_ffi.rs"]
 mod fit_over;
+#[path = "../../rust/src/lanes_ffi.rs"]
+mod lanes_ffi;
 #[path = "../../rust/src/place.rs"]
 mod place;
 #[path = "../../rust/src/plan_ffi.rs"]
@@ -21,6 +21,10 @@ mod region;
 mod regions_ffi;
 #[path = "../../rust/src/rounds_ffi.rs"]
 mod rounds_ffi;
+#[path = "../../rust/src/sched_ffi.rs"]
+mod sched_ffi;
+#[path = "../../rust/src/over/sched_ffi.rs"]
+mod sched_over;
 #[path = "../../rust/src/shared.rs"]
 mod shared;
 #[path = "../../rust/src/source/mod.rs"]
@@ -33,7 +37,7 @@ use source::kit::alloc::Global;
 use source::kit::fixed_vec::Chunk;
 use source::kit::opaque::Opaque;
 use source::{
-    cubejobs_dispatch as jobs, cubejobs_plan as plans, cubejobs_regions as blocks, cubejobs_rounds as rounds,
+    cubejobs_lanes as jobs, cubejobs_plan as plans, cubejobs_regions as blocks, cubejobs_rounds as rounds,
 };
 
 /// Random numbers, by splitmix64.
@@ -339,11 +343,11 @@ fn call_regions(dice: &mut Dice, calls: u64) {
 
 const SIDES: usize = 4;
 
-/// The handles of lanes or of a dispatcher, in both forms.
-struct Sides<O, L, W> {
-    owner: O,
-    lanes: Vec<L>,
-    workers: Vec<W>,
+/// The handles of lanes, in both forms.
+struct Sides {
+    owner: lanes_ffi::Lanes,
+    lanes: Vec<lanes_ffi::OneLane>,
+    workers: Vec<lanes_ffi::OneWorker>,
     other: jobs::Handle,
     other_lanes: Vec<jobs::Handle>,
     other_workers: Vec<jobs::Handle>,
@@ -353,12 +357,12 @@ fn shut() -> jobs::Handle {
     jobs::Handle { tag: 0, ptr: Opaque::nothing(Global) }
 }
 
-impl<O, L, W> Sides<O, L, W> {
-    fn new(owner: O, lane: fn() -> L, worker: fn() -> W) -> Self {
+impl Sides {
+    fn new() -> Self {
         Sides {
-            owner,
-            lanes: (0..SIDES).map(|_| lane()).collect(),
-            workers: (0..SIDES).map(|_| worker()).collect(),
+            owner: lanes_ffi::Lanes::SHUT,
+            lanes: (0..SIDES).map(|_| lanes_ffi::OneLane::SHUT).collect(),
+            workers: (0..SIDES).map(|_| lanes_ffi::OneWorker::SHUT).collect(),
             other: shut(),
             other_lanes: (0..SIDES).map(|_| shut()).collect(),
             other_workers: (0..SIDES).map(|_| shut()).collect(),
@@ -369,75 +373,40 @@ impl<O, L, W> Sides<O, L, W> {
 /// Makes a call of both forms: `call!(name (handle, its), ..; numbers => fields)`.
 macro_rules! call {
     ($name:ident $(($one:expr, $other:expr)),+; $($number:expr),* $(=> $($field:ident),+)?) => {
-        same!(stringify!($name), dispatch_ffi::$name($(&mut $one,)+ $($number),*),
+        same!(stringify!($name), lanes_ffi::$name($(&mut $one,)+ $($number),*),
             jobs::$name($(&mut $other,)+ $($number),*) $(, $($field),+)?)
     };
 }
 
-fn sizes_of(dice: &mut Dice) -> (dispatch_ffi::Sizes, jobs::LaneSizes) {
+fn sizes_of(dice: &mut Dice) -> (lanes_ffi::Sizes, jobs::LaneSizes) {
     let (lanes, workers, capacity) =
         (dice.small(6), dice.small(6), dice.below(9) + 1024 * (dice.below(30) / 29));
-    (dispatch_ffi::Sizes { lanes, workers, capacity }, jobs::LaneSizes { lanes, workers, capacity })
+    (lanes_ffi::Sizes { lanes, workers, capacity }, jobs::LaneSizes { lanes, workers, capacity })
 }
 
 /// Compares a wake, whose answers have other names.
-fn same_wake(one: dispatch_ffi::Numbered, other: jobs::WakeAnswer) {
+fn same_wake(one: lanes_ffi::Numbered, other: jobs::WakeAnswer) {
     assert_eq!((one.code, one.number), (other.code, other.worker), "wake: the archive, and the source");
 }
-
-type Lanes = Sides<dispatch_ffi::Lanes, dispatch_ffi::OneLane, dispatch_ffi::OneWorker>;
-type Shop = Sides<dispatch_ffi::Dispatch, dispatch_ffi::ShopLane, dispatch_ffi::ShopWorker>;
 
 /// Calls the lanes.
 fn call_lanes(dice: &mut Dice, calls: u64) {
     let mut done = 0;
     while done < calls {
-        let shut_one = dispatch_ffi::Lanes::SHUT;
-        let mut it = Lanes::new(shut_one, || dispatch_ffi::OneLane::SHUT, || dispatch_ffi::OneWorker::SHUT);
-        let mut shares = [dispatch_ffi::SharedLane::SHUT, dispatch_ffi::SharedLane::SHUT];
-        let mut its_shares = [shut(), shut()];
+        let mut it = Sides::new();
         let (one, other) = sizes_of(dice);
         let opened = jobs::cubejobs_lanes_open_version(&mut it.other, jobs::VERSION, other);
-        same!("open", dispatch_ffi::cubejobs_lanes_open_version(&mut it.owner, jobs::VERSION, one), opened);
+        same!("open", lanes_ffi::cubejobs_lanes_open_version(&mut it.owner, jobs::VERSION, one), opened);
         for _ in 0..dice.below(5000) {
-            if dice.below(8) == 0 {
-                share_call(dice, &mut it, &mut shares, &mut its_shares);
-            } else {
-                lanes_call(dice, &mut it);
-            }
+            lanes_call(dice, &mut it);
             done += 1;
-        }
-        for at in 0..2 {
-            call!(cubejobs_lanes_free_shared (shares[at], its_shares[at]););
         }
         end_lanes(&mut it);
         done += 1;
     }
 }
 
-fn share_call(
-    dice: &mut Dice,
-    it: &mut Lanes,
-    [one, two]: &mut [dispatch_ffi::SharedLane; 2],
-    [its, second]: &mut [jobs::Handle; 2],
-) {
-    let (i, dim) = (dice.place(SIDES), dice.small(9));
-    match dice.below(12) {
-        0 => call!(cubejobs_lanes_share (it.lanes[i], it.other_lanes[i]), (*one, *its);),
-        1 => call!(cubejobs_lanes_share_again (*one, *its), (*two, *second);),
-        2..=5 => call!(cubejobs_lanes_submit_shared (*one, *its); i as u64, dim => code, seq),
-        6..=8 => call!(cubejobs_lanes_submit_shared (*two, *second); i as u64, dim => code, seq),
-        9 => {
-            let other = jobs::cubejobs_lanes_wake_shared(its);
-            same_wake(dispatch_ffi::cubejobs_lanes_wake_shared(one), other);
-            0
-        }
-        10 => call!(cubejobs_lanes_free_shared (*two, *second);),
-        _ => call!(cubejobs_lanes_free_shared (*one, *its);),
-    };
-}
-
-fn lanes_call(dice: &mut Dice, it: &mut Lanes) {
+fn lanes_call(dice: &mut Dice, it: &mut Sides) {
     let (i, from, dim) = (dice.place(SIDES), dice.small(6), dice.small(70));
     let payload = dice.next();
     match dice.below(40) {
@@ -447,7 +416,7 @@ fn lanes_call(dice: &mut Dice, it: &mut Lanes) {
         3..=16 => call!(cubejobs_lanes_submit (it.lanes[i], it.other_lanes[i]); payload, dim => code, seq),
         17..=18 => {
             let other = jobs::cubejobs_lanes_wake(&mut it.other_lanes[i]);
-            same_wake(dispatch_ffi::cubejobs_lanes_wake(&mut it.lanes[i]), other);
+            same_wake(lanes_ffi::cubejobs_lanes_wake(&mut it.lanes[i]), other);
             0
         }
         19..=24 => call!(cubejobs_lanes_take (it.workers[i], it.other_workers[i]); from
@@ -467,7 +436,7 @@ fn lanes_call(dice: &mut Dice, it: &mut Lanes) {
 }
 
 /// Ends lanes as far as they can be ended.
-fn end_lanes(it: &mut Lanes) {
+fn end_lanes(it: &mut Sides) {
     for at in 0..SIDES {
         call!(cubejobs_lanes_free_lane (it.lanes[at], it.other_lanes[at]););
         call!(cubejobs_lanes_free_worker (it.workers[at], it.other_workers[at]););
@@ -479,73 +448,6 @@ fn end_lanes(it: &mut Lanes) {
         code = call!(cubejobs_lanes_rest (it.owner, it.other); => code, lane, dim, seq, payload, left);
     }
     call!(cubejobs_lanes_free (it.owner, it.other););
-}
-
-/// Calls the dispatcher.
-fn call_shop(dice: &mut Dice, calls: u64) {
-    let mut done = 0;
-    while done < calls {
-        let shut_one = dispatch_ffi::Dispatch::SHUT;
-        let mut it = Shop::new(shut_one, || dispatch_ffi::ShopLane::SHUT, || dispatch_ffi::ShopWorker::SHUT);
-        let (n, (one, other)) = (dice.small(12) + 30 * (dice.small(30) / 29), sizes_of(dice));
-        let opened = jobs::cubejobs_dispatch_open_version(&mut it.other, jobs::VERSION, n, other);
-        same!(
-            "open",
-            dispatch_ffi::cubejobs_dispatch_open_version(&mut it.owner, jobs::VERSION, n, one),
-            opened
-        );
-        for _ in 0..dice.below(5000) {
-            shop_call(dice, &mut it, n);
-            done += 1;
-        }
-        end_shop(&mut it);
-        done += 1;
-    }
-}
-
-fn shop_call(dice: &mut Dice, it: &mut Shop, n: u32) {
-    let (i, dim) = (dice.place(SIDES), dice.small(n + 2));
-    let payload = dice.next();
-    match dice.below(40) {
-        0 => call!(cubejobs_dispatch_lane (it.owner, it.other), (it.lanes[i], it.other_lanes[i]);),
-        1 => call!(cubejobs_dispatch_worker (it.owner, it.other), (it.workers[i], it.other_workers[i]);),
-        2 => call!(cubejobs_dispatch_worker_number (it.workers[i], it.other_workers[i]); => code, number),
-        3..=14 => call!(cubejobs_dispatch_submit (it.lanes[i], it.other_lanes[i]); payload, dim => code, seq),
-        15..=16 => {
-            let other = jobs::cubejobs_dispatch_wake(&mut it.other_lanes[i]);
-            same_wake(dispatch_ffi::cubejobs_dispatch_wake(&mut it.lanes[i]), other);
-            0
-        }
-        17..=22 => call!(cubejobs_dispatch_next (it.workers[i], it.other_workers[i]);
-            => code, lane, dim, base, seq, payload),
-        23..=27 => call!(cubejobs_dispatch_find (it.workers[i], it.other_workers[i]);
-            => code, lane, dim, woken, base, seq, payload),
-        28 => call!(cubejobs_dispatch_awake (it.workers[i], it.other_workers[i]);),
-        29..=34 => call!(cubejobs_dispatch_done (it.workers[i], it.other_workers[i]);),
-        35 => call!(cubejobs_dispatch_give_back (it.workers[i], it.other_workers[i]);
-            => code, lane, dim, base, seq, payload),
-        36 => call!(cubejobs_dispatch_free_lane (it.lanes[i], it.other_lanes[i]);),
-        37 => call!(cubejobs_dispatch_free_worker (it.workers[i], it.other_workers[i]);),
-        38 if dice.below(90) == 0 => call!(cubejobs_dispatch_close (it.owner, it.other); => code, accepted),
-        39 if dice.below(90) == 0 => call!(cubejobs_dispatch_finish (it.owner, it.other); => code, number),
-        _ => call!(cubejobs_dispatch_rest (it.owner, it.other); => code, lane, dim, seq, payload, left),
-    };
-}
-
-/// Ends a dispatcher as far as it can be ended.
-fn end_shop(it: &mut Shop) {
-    for at in 0..SIDES {
-        call!(cubejobs_dispatch_done (it.workers[at], it.other_workers[at]););
-        call!(cubejobs_dispatch_free_lane (it.lanes[at], it.other_lanes[at]););
-        call!(cubejobs_dispatch_free_worker (it.workers[at], it.other_workers[at]););
-    }
-    call!(cubejobs_dispatch_close (it.owner, it.other); => code, accepted);
-    call!(cubejobs_dispatch_finish (it.owner, it.other); => code, number);
-    let mut code = jobs::DONE;
-    while code == jobs::DONE {
-        code = call!(cubejobs_dispatch_rest (it.owner, it.other); => code, lane, dim, seq, payload, left);
-    }
-    call!(cubejobs_dispatch_free (it.owner, it.other););
 }
 
 /// A planner in both forms, with the tickets of all its jobs, and 0.
@@ -650,6 +552,130 @@ fn call_plan(dice: &mut Dice, calls: u64) {
     }
 }
 
+/// A scheduler for threads in both forms, with the tickets of all its jobs, and 0.
+struct Sched {
+    one: sched_ffi::Handle,
+    other: sched_over::Handle,
+    tickets: Vec<u64>,
+    now: u64,
+}
+
+/// Compares two answers of a scheduler. Returns the ticket.
+fn same_answer(what: &str, one: sched_ffi::Answer, other: sched_over::Answer) -> u64 {
+    same!(what, one.woken(), other.woken());
+    same!(what, one, other, ticket, code, count, more, over, payload, base, processors, worker)
+}
+
+impl Sched {
+    fn open(dice: &mut Dice, dim: u32) -> Self {
+        let (jobs, workers) = ([1, 3, 10, 0, 1000][dice.place(8).min(4)], [1, 0, 2, 5, 20][dice.place(9).min(4)]);
+        let (mut one, mut other) = (sched_ffi::shut(), sched_over::shut());
+        let (dim, patience) = (dim + 20 * u32::from(dice.below(20) == 0), dice.small(4));
+        let made = sched_ffi::open(&mut one, sched_ffi::Options { dim, jobs, patience, workers });
+        same!("open", made, sched_over::open(&mut other, sched_over::Options { dim, jobs, patience, workers }));
+        Sched { one, other, tickets: vec![0], now: 0 }
+    }
+
+    /// Returns a time: this one or a later one, seldom an earlier one, and the last of all.
+    fn time(&mut self, dice: &mut Dice) -> u64 {
+        self.now += dice.below(2) * dice.below(30);
+        [self.now.wrapping_sub(5), u64::MAX, self.now][dice.place(40).min(2)]
+    }
+
+    fn submit(&mut self, dice: &mut Dice, dim: u32) {
+        let (large, classes) = (1 + dice.small((1 << dim) + 2), 1 + dice.small(9));
+        let (processors, job_class) = (dice.small(large) + dice.small(2), dice.small(classes));
+        let estimate = [0, dice.below(20), dice.below(200), u64::MAX - dice.below(3)][dice.place(4)];
+        let (payload, now) = (dice.next(), self.time(dice));
+        let one = sched_ffi::Request { payload, estimate, processors, job_class };
+        let other = sched_over::Request { payload, estimate, processors, job_class };
+        let one = sched_ffi::submit(&mut self.one, one, now);
+        let ticket = same_answer("submit", one, sched_over::submit(&mut self.other, other, now));
+        self.tickets.push(ticket);
+    }
+
+    /// Cancels a job, or looks for it, by a ticket of a job that may be over, or by any number.
+    fn call(&mut self, dice: &mut Dice) {
+        let known = self.tickets[dice.place(self.tickets.len())];
+        let ticket = if dice.below(20) == 0 { known ^ 1 << dice.below(64) } else { known };
+        let now = self.time(dice);
+        let (one, other) = (&mut self.one, &mut self.other);
+        if dice.below(2) == 0 {
+            same_answer("cancel", sched_ffi::cancel(one, ticket, now), sched_over::cancel(other, ticket, now));
+            return;
+        }
+        let (one, other) = (sched_ffi::forecast(one, ticket), sched_over::forecast(other, ticket));
+        same!("forecast", one, other, code, state, base, time, dim);
+    }
+
+    /// Makes a call of a worker, which may not be out, or not be there.
+    fn work(&mut self, dice: &mut Dice) {
+        let (worker, now) = (dice.small(4) + 18 * u32::from(dice.below(20) == 0), self.time(dice));
+        let (one, other) = (&mut self.one, &mut self.other);
+        match dice.below(20) {
+            0..=2 => same_answer("worker", sched_ffi::worker(one), sched_over::worker(other)),
+            3 => same_answer("give up", sched_ffi::give_up(one, worker, now), sched_over::give_up(other, worker, now)),
+            4 => same_answer("done", sched_ffi::done(one, worker, now), sched_over::done(other, worker, now)),
+            5 => same_answer("leave", sched_ffi::leave(one, worker, now), sched_over::leave(other, worker, now)),
+            6 => same_answer("lost", sched_ffi::lost(one, worker, now), sched_over::lost(other, worker, now)),
+            _ => same_answer("next", sched_ffi::next(one, worker, now), sched_over::next(other, worker, now)),
+        };
+    }
+
+    fn use_block(&mut self, dice: &mut Dice, dim: u32) {
+        let most = dice.small(dim + 2);
+        let k = dice.small(most + 1);
+        let base = dice.below(2 << dim) >> k << k | u64::from(dice.below(20) == 0);
+        let now = self.time(dice);
+        let (one, other) = (&mut self.one, &mut self.other);
+        match dice.below(2) {
+            0 => same_answer("occupy", sched_ffi::occupy(one, base, k, now), sched_over::occupy(other, base, k, now)),
+            _ => same_answer("vacate", sched_ffi::vacate(one, base, k, now), sched_over::vacate(other, base, k, now)),
+        };
+    }
+
+    fn look(&mut self, dice: &mut Dice) {
+        let now = self.time(dice);
+        let (one, other) = (sched_ffi::counts(&mut self.one), sched_over::counts(&mut self.other));
+        same!("counts", one, other, code, waiting, running, held, asked, occupied);
+        let (one, other) = (&mut self.one, &mut self.other);
+        same_answer("settle", sched_ffi::settle(one, now), sched_over::settle(other, now));
+        same!("free", sched_ffi::free(one), sched_over::free(other));
+    }
+
+    /// Closes the scheduler, takes back what waits, ends what runs, and frees it.
+    fn end(&mut self, dice: &mut Dice) {
+        let (mode, now) = (dice.small(3), self.time(dice));
+        let (one, other) = (&mut self.one, &mut self.other);
+        same_answer("close", sched_ffi::close(one, mode, now), sched_over::close(other, mode, now));
+        for after in 0..20 {
+            same_answer("rest", sched_ffi::rest(one, after), sched_over::rest(other, after));
+            same_answer("lost", sched_ffi::lost(one, after, now), sched_over::lost(other, after, now));
+        }
+    }
+}
+
+/// Calls schedulers for threads by one thread, one after another. Some are shut, or refuse their options.
+fn call_sched(dice: &mut Dice, calls: u64) {
+    let mut done = 0;
+    while done < calls {
+        let dim = dice.small(12);
+        let (mut sched, most) = (Sched::open(dice, dim), dice.below(3000));
+        for call in 0..most {
+            match dice.below(16) {
+                0..=4 => sched.submit(dice, dim),
+                5 | 6 => sched.call(dice),
+                7 => sched.use_block(dice, dim),
+                8 => sched.look(dice),
+                9 if call + 40 > most => sched.end(dice),
+                _ => sched.work(dice),
+            }
+        }
+        sched.end(dice);
+        done += most;
+    }
+}
+
 fn main() {
     let calls = std::env::args().nth(1).and_then(|word| word.parse().ok()).expect("beside CALLS");
     let mut dice = Dice(1);
@@ -657,7 +683,7 @@ fn main() {
     call_rounds(&mut dice, calls);
     call_regions(&mut dice, calls);
     call_lanes(&mut dice, calls);
-    call_shop(&mut dice, calls);
     call_plan(&mut dice, calls);
+    call_sched(&mut dice, calls);
     println!("{calls} calls of each library, and all answers are the same");
 }

@@ -7,7 +7,8 @@ a plain model; each call over random bytes; and processes that are killed inside
 code where it must come, handles that are shut, foreign or of the wrong kind, eight threads with a table of counters and
 with plain memory that blocks guard, and each request for memory refused in turn. Threads release blocks of others, and
 wait for blocks, and so do processes that share memory. Of the lanes: the same, beside lists. Sixteen producers pass jobs
-to eight workers, by lanes and by a dispatcher. Workers sleep, also in scripted orders of threads. Wrong libraries, and
+to eight workers. Workers and submits sleep, also in random programs and in scripted orders of threads. Of the scheduler for
+threads: each call, crowds and random programs of threads, and races of deadlines, places and closes. Wrong libraries, and
 headers with a fault, must be seen. The examples are built and run. A language whose compiler is not there is skipped.
 
 The libraries of plain Rust (`rust/c`) are called too, in the gate by the plainest programs.
@@ -15,8 +16,9 @@ The libraries of plain Rust (`rust/c`) are called too, in the gate by the plaine
 `checks/run ffi [--after-gate] [--libraries FOLDER] [--source] [--long] [--seconds N] [--only WORD]`. With `--source` it
 calls only the libraries of plain Rust, by all programs. With `--libraries` it takes the archives of a folder, and builds
 none. With `--after-gate` it takes the libraries below as `rt ci` has just left them. With `--long` it makes more than
-10^7 calls of first fit and 1,000 kills, 10^8 takes of the regions, and passes 10^7 jobs. Regions and jobs run under each
-sanitizer for N seconds each, or half an hour. With `--only` it runs the rows whose names have the word.
+10^7 calls of first fit and 1,000 kills, 10^8 takes of the regions, and passes 10^7 jobs by lanes and by the scheduler.
+Regions, jobs and the scheduler run under each sanitizer for N seconds each, or half an hour. With `--only` it runs the
+rows whose names have the word.
 """
 import os
 import shutil
@@ -24,20 +26,21 @@ import subprocess
 import tempfile
 from typing import NamedTuple, Sequence
 
-from checks.built import archive, batch, event_loop, misuse, pinjobs, preload, static, wait_faults
+from checks.built import archive, batch, event_loop, misuse, pinjobs, preload, sched_faults, static, wait_faults
 from checks.lib import erase
 from checks.lib.repository import files_below, path, read
-from checks.lib.rows import Row, Skipped, answer, must, put, run_rows
+from checks.lib.rows import Row, Skipped, Wrong, answer, must, put, run_rows
 from checks.lib.toolchain import AFTER_GATE, FOR_ANY
 
-FIT, PLAN, DISPATCH, ROUNDS, REGIONS = archive.LIBRARIES
+FIT, PLAN, SCHED, LANES, ROUNDS, REGIONS = archive.LIBRARIES
 OF_REGIONS = ("cube_shape", "region_bits", "bitmap_tree", "bitmap_occupancy", "hidden_box")
 OF_ROUNDS = ("collectives", "cube_shape", "rank_steps")
 OF_PLAN = ("cube_shape", "fit_tree", "block_trees", "wait_queue", "sched_blocks", "sched_jobs", "sched_core", "sched_request",
            "hidden_box")
-OF_DISPATCH = ("bitmap_tree", "hidden_box", "job_lanes", "kept_places", "region_shop", "shop_owner")
-BELOW = {FIT: ("cube_shape", "fit_tree", "region_bits"), PLAN: OF_PLAN, DISPATCH: OF_DISPATCH, REGIONS: OF_REGIONS,
-         ROUNDS: OF_ROUNDS}
+OF_SCHED = (*OF_PLAN, "sched_law", "sched_pool", "sched_board", "sched_threads")
+OF_LANES = ("hidden_box", "job_lanes", "kept_places", "wake_calls", "wake_pool")
+BELOW = {FIT: ("cube_shape", "fit_tree", "region_bits"), PLAN: OF_PLAN, SCHED: OF_SCHED, LANES: OF_LANES,
+         REGIONS: OF_REGIONS, ROUNDS: OF_ROUNDS}
 # What the names of rows begin with that look into archives.
 OF_ARCHIVES = ("names of its own", "the Rust package")
 LONGER, SECONDS, HALF_AN_HOUR = 100, 7200, 1800
@@ -67,6 +70,10 @@ def build(crate, after_gate):
     must(status == 0, f"the library {crate} was not built:\n{(out + said).decode(errors='replace')}")
 
 
+# Of each folder, how its program was compiled, and the text of its source.
+COMPILED = {}
+
+
 class Program(NamedTuple):
     """A C program: its source, its libraries, and how it is compiled and run. It may have to show what a file has."""
 
@@ -79,7 +86,7 @@ class Program(NamedTuple):
     shown: str = ""
 
     def make(self, room):
-        """Compiles the program over the libraries of a folder. Returns the words that run it."""
+        """Compiles the program over the libraries of a folder, unless it is there. Returns the words that run it."""
         has, tried = shutil.which(self.compiler[0]), [*self.compiler, "-o", "/dev/null", "-"]
         if not has or answer(tried, "int main() { return 0; }")[0]:
             raise Skipped(f"no {' '.join(self.compiler)} here")
@@ -87,8 +94,11 @@ class Program(NamedTuple):
             raise Skipped(f"no {self.placed[0]} here")
         libraries = [f"{room}/lib{it}.a" if it in BELOW else it for it in self.libraries]
         words = [*self.compiler, *STRICT, path(self.source), "-xnone", *self.flags, *libraries, "-pthread"]
-        status, _, said = answer([*words, "-o", f"{room}/program"], timeout=SECONDS)
-        must(status == 0, f"{' '.join(words)}: {said.decode(errors='replace')}")
+        if COMPILED.get(room) != (words, read(self.source)):
+            COMPILED.pop(room, None)
+            status, _, said = answer([*words, "-o", f"{room}/program"], timeout=SECONDS)
+            must(status == 0, f"{' '.join(words)}: {said.decode(errors='replace')}")
+            COMPILED[room] = words, read(self.source)
         return [*self.placed, f"{room}/program", *self.words]
 
     def start(self, room):
@@ -106,13 +116,14 @@ def must_run(room, program):
 
 
 def must_be_seen(room, program, warning):
-    """Sees that a sanitizer or the program itself stops it with this warning, in one of ten runs: some faults need an
-    order of threads that not each run has."""
+    """Sees that a sanitizer or the program itself stops it with this warning, or with one of these, in one of ten runs:
+    some faults need an order of threads that not each run has."""
+    warnings = (warning,) if isinstance(warning, bytes) else warning
     for _ in range(10):
         status, out, said = program.start(room)
-        if status != 0:
-            break
-    must(status != 0 and warning in out + said, f"status {status}, and no {warning.decode()}")
+        if status != 0 and any(it in out + said for it in warnings):
+            return
+    raise Wrong(f"status {status}, and no {b' or '.join(warnings).decode()}: {(out + said).decode(errors='replace')[-500:]}")
 
 
 CALLS = "checks/built/{}_calls.c".format
@@ -201,49 +212,143 @@ def programs_of_regions(longer, seconds):
     yield Program(CALLS("arena"), [REGIONS])
 
 
-WRAPPED_LANES = ",".join(f"--wrap=cubejobs_lanes_{it}" for it in ("take", "take_any", "close", "rest", "submit_shared"))
+WRAPPED_LANES = ",".join(f"--wrap=cubejobs_lanes_{it}" for it in ("take", "take_any", "close", "rest", "submit"))
 # What is wrong with a library of lanes, and what the calls say then.
 WRONG_LANES = (
     ("some jobs come twice", b"another answer"),
     ("a job loses its dimension", b"another answer"),
     ("a close counts too few", b"another answer"),
     ("jobs that are left are forgotten", b"another answer"),
-    ("a submit to a shared lane submits twice", b"another answer"),
-    ("a submit to a shared lane submits another job first", b"another answer"),
+    ("a submit submits twice", b"another answer"),
+    ("a submit submits another job first", b"another answer"),
 )
 
 
 def rows_of_lanes(room, longer):
     for compiler, jobs in ((CHECKED, 20_000), (RACES, 1000), (CLANG, 2000), (CXX, 100_000)):
         placed = PLACED if compiler in (RACES, CLANG) else ()
-        program = Program(CALLS("lanes"), [DISPATCH], compiler, words=[str(jobs * longer)], placed=placed)
+        program = Program(CALLS("lanes"), [LANES], compiler, words=[str(jobs * longer)], placed=placed)
         yield Row(" ".join(["the lanes by", *placed, *compiler]), must_run, (room, program))
-    for compiler, jobs in ((CHECKED, 20_000), (CXX, 100_000)):
-        program = Program(CALLS("dispatch"), [DISPATCH], compiler, words=[str(jobs)])
-        yield Row(" ".join(["the dispatcher by", *compiler]), must_run, (room, program))
     for compiler, jobs in ((CHECKED, 20_000), (RACES, 1000), (CLANG, 2000), (CXX, 20_000)):
         placed = PLACED if compiler in (RACES, CLANG) else ()
-        program = Program(CALLS("asleep"), [DISPATCH], compiler, words=[str(jobs * longer)], placed=placed)
+        program = Program(CALLS("asleep"), [LANES], compiler, words=[str(jobs * longer)], placed=placed)
         yield Row(" ".join(["workers that sleep by", *placed, *compiler]), must_run, (room, program))
-    memory = Program("checks/built/lanes_memory.c", [DISPATCH], C, OWN_MALLOC)
+    memory = Program("checks/built/lanes_memory.c", [LANES], C, OWN_MALLOC)
     yield Row("the memory of the lanes", must_run, (room, memory))
-    yield Row("examples/lanes.c", must_run, (room, Program("examples/lanes.c", [DISPATCH], shown="examples/lanes.out")))
-    race = Program(CALLS("lanes"), [DISPATCH], RACES, ["-DUNGUARDED"], ["500"], PLACED)
+    yield Row("examples/lanes.c", must_run, (room, Program("examples/lanes.c", [LANES], shown="examples/lanes.out")))
+    race = Program(CALLS("lanes"), [LANES], RACES, ["-DUNGUARDED"], ["500"], PLACED)
     yield Row("a race beside a job is seen", must_be_seen, (room, race, b"WARNING: ThreadSanitizer: data race"))
     for number, (what, said) in enumerate(WRONG_LANES, 1):
         shim = [f"-DWRONG={number}", "-xc", path("checks/built/wrong_lanes.c"), "-xnone", f"-Wl,{WRAPPED_LANES}"]
-        yield Row(what, must_be_seen, (room, Program(CALLS("lanes"), [DISPATCH], C, shim, ["2000"]), said))
-    marked = Program(CALLS("lanes"), [DISPATCH], C, MARKED, ["100"], HELGRIND)
+        yield Row(what, must_be_seen, (room, Program(CALLS("lanes"), [LANES], C, shim, ["2000"]), said))
+    marked = Program(CALLS("lanes"), [LANES], C, MARKED, ["100"], HELGRIND)
     yield Row("helgrind sees no race between jobs", must_run, (room, marked))
+
+
+SCHED_CALLS, SCHED_RANDOM = CALLS("sched"), "checks/built/sched_random.c"
+SCHED_OWNERS = "checks/built/sched_owners.cpp"
+WRAPPED_SCHED = ",".join(f"--wrap=cubejobs_sched_try_{it}" for it in (
+    "submit", "cancel", "worker", "next", "give_up", "done", "leave", "lost", "occupy", "vacate", "close", "rest", "settle",
+    "forecast", "counts"))
+# What is wrong with a library of the scheduler, and the program that sees it, with its words.
+WRONG_SCHED = (
+    ("a start is given to two workers", SCHED_CALLS, "crowd 3 4 4 3000"),
+    ("a cancel loses the job", SCHED_RANDOM, "5 40"),
+    ("a deadline is ignored", SCHED_RANDOM, "5 40"),
+    ("a submit names no worker", SCHED_RANDOM, "5 40"),
+    ("a job that starts at a deadline is lost", SCHED_RANDOM, "races 3000"),
+    ("a call never says that more may start", SCHED_CALLS, "one"),
+    ("a call never says that all is over", SCHED_CALLS, "crowd 3 4 4 3000"),
+    ("a wake by the system is lost", SCHED_CALLS, "one"),
+    ("a rest loses a job", SCHED_RANDOM, "5 40"),
+    ("a block that is occupied is in service", SCHED_RANDOM, "5 40"),
+)
+
+
+def shim_of_sched(number):
+    """Returns what links a wrong library of the scheduler, or with 0 one in which another thread often has the turn."""
+    return [f"-DWRONG={number}", "-xc", path("checks/built/wrong_sched.c"), "-xnone", f"-Wl,{WRAPPED_SCHED},--wrap=syscall"]
+
+
+def long_programs_of_sched(seconds):
+    """Yields the programs that pass 10^7 jobs, make 10^6 races of each kind, and run for these seconds under each
+    sanitizer."""
+    yield Program(SCHED_CALLS, [SCHED], CXX, words=["crowd", "7", "4", "4", "10000000"])
+    yield Program(SCHED_RANDOM, [SCHED], CXX, words=["races", "1000000"])
+    for compiler in (CHECKED, RACES, CLANG):
+        placed = () if compiler is CHECKED else PLACED
+        yield Program(SCHED_RANDOM, [SCHED], compiler, words=["for", str(seconds)], placed=placed)
+
+
+def programs_of_sched(longer, seconds):
+    """Yields the programs over the scheduler for threads that must end well."""
+    if longer > 1:
+        yield from long_programs_of_sched(seconds)
+    watched = ((CHECKED, 3), (RACES, 1), (CLANG, 1), (CXX, 5), ([*CHECKED, CONDITION], 2), (["clang", *CHECKED[1:]], 2))
+    for compiler, times in watched:
+        placed = PLACED if compiler in (RACES, CLANG) else ()
+        runs = [(SCHED_CALLS, f"crowd {times} 4 4 {2000 * times * min(longer, 20)}"), (SCHED_CALLS, "one"),
+                (SCHED_RANDOM, f"{times} {10 * times * longer}"), (SCHED_RANDOM, f"races {200 * times * longer}")]
+        for source, words in runs:
+            # MemorySanitizer does not see what a call of the library itself writes.
+            if compiler is not CLANG or words != "one":
+                yield Program(source, [SCHED], compiler, words=words.split(), placed=placed)
+    yield Program("checks/built/sched_memory.c", [SCHED], C, OWN_MALLOC)
+    for compiler in (CHECKED, RACES, CXX):
+        placed = PLACED if compiler is RACES else ()
+        yield Program("examples/sched.c", [SCHED], compiler, placed=placed, shown="examples/sched.out")
+    for source, words in ((SCHED_CALLS, "crowd 3 4 4 5000"), (SCHED_RANDOM, "5 20")):
+        yield Program(source, [SCHED], C, shim_of_sched(0), words.split())
+    yield from owners_of_sched(longer)
+
+
+def owners_of_sched(longer):
+    """Yields the programs over the owners of C++ of a scheduler that must end well."""
+    for compiler in ([*CXX_17, *ADDRESSES], CLANG_20, RACES_20, [*CXX_17, "-fno-exceptions", "-fno-rtti"],
+                     [*CXX_20, *ADDRESSES, CONDITION]):
+        placed = PLACED if compiler is RACES_20 else ()
+        yield Program(SCHED_OWNERS, [SCHED], compiler, words=[str(2000 * min(longer, 20))], placed=placed)
+    for compiler in ([*CXX_17, *ADDRESSES], CLANG_20, RACES_20):
+        placed = PLACED if compiler is RACES_20 else ()
+        yield Program("examples/tasks.cpp", [SCHED], compiler, placed=placed, shown="examples/tasks.out")
+
+
+def wrong_owners_of_sched(room):
+    """Yields the faults of the owners of C++ of a scheduler, which a program must see."""
+    faults = [*((CXX_17, (), it) for it in sched_faults.OF_OWNERS), ([*CXX_17, *ADDRESSES], (), sched_faults.LEAKS),
+              *((RACES_20, PLACED, it) for it in sched_faults.OF_RACES)]
+    for number, (compiler, placed, (what, old, new, *said)) in enumerate(faults):
+        unlike(room, f"sched_owners{number}", "cubejobs_sched.hpp", old, new)
+        compiler = [*compiler, f"-I{room}/sched_owners{number}"]
+        program = Program(SCHED_OWNERS, [SCHED], compiler, ["-DPATIENCE=3"], ["2000"], placed)
+        yield Row(f"owners of a scheduler: {what}", must_be_seen, (room, program, said or sched_faults.SEEN))
+
+
+def rows_of_sched(room, longer, seconds):
+    """Yields the scheduler for threads, and the wrong libraries, which the programs must see."""
+    for program in programs_of_sched(longer, seconds):
+        title = " ".join([program.source, *program.words, "by", *program.placed, *program.compiler, *program.flags[:1]])
+        yield Row(title, must_run, (room, program))
+    for number, (what, source, words) in enumerate(WRONG_SCHED, 1):
+        program = Program(source, [SCHED], C, ["-DPATIENCE=3", *shim_of_sched(number)], words.split())
+        yield Row(what, must_be_seen, (room, program, sched_faults.SEEN))
+    for number, (what, old, new) in enumerate(sched_faults.OF_NAPS):
+        unlike(room, f"sched_naps{number}", "cubejobs_sched.h", old, new)
+        program = Program(SCHED_RANDOM, [SCHED], [*C, f"-I{room}/sched_naps{number}"], ["-DPATIENCE=3"], ["races", "1000"])
+        yield Row(f"naps of a scheduler: {what}", must_be_seen, (room, program, sched_faults.SEEN))
+    yield from wrong_owners_of_sched(room)
+
+
+# The programs of lanes whose threads sleep, and their words where a fault must be seen.
+OF_LANES_THAT_SLEEP = {"look_order": [], "sleep_calls": ["2000"], "room_calls": ["200"]}
 
 
 def rows_of_waits(room):
     """Yields the headers with a fault, which the programs must see."""
     for number, (name, what, old, new, said) in enumerate(wait_faults.OF_THE_HEADER):
         unlike(room, f"fault{number}", "cubejobs_wait.h", old, new)
-        library = DISPATCH if name in ("look_order", "sleep_calls") else REGIONS
-        words = ["2000"] if name in ("sleep_calls", "wait_calls") else []
-        shim = wait_faults.shim(6) if name == "sleep_calls" else ()
+        library, words = (LANES if name in OF_LANES_THAT_SLEEP else REGIONS), OF_LANES_THAT_SLEEP.get(name, ["2000"])
+        shim = wait_faults.shim(5) if name == "sleep_calls" else ()
         compiler, flags = [*C, f"-I{room}/fault{number}"], ["-DPATIENCE=3", *shim]
         program = Program(f"checks/built/{name}.c", [library], compiler, flags, words)
         yield Row(what, must_be_seen, (room, program, said))
@@ -251,64 +356,68 @@ def rows_of_waits(room):
     compiler = [*C, CONDITION, f"-I{room}/cancelled"]
     program = Program(CALLS("deadline"), [REGIONS], compiler, ["-DPATIENCE=3"], ["100"])
     yield Row("a thread that ends inside a wait", must_be_seen, (room, program, wait_faults.LOST))
-    for number, (what, old, new) in enumerate(wait_faults.OF_OWNERS):
+    for number, (name, what, old, new, said) in enumerate(wait_faults.OF_OWNERS):
         unlike(room, f"owners{number}", "cubejobs.hpp", old, new)
         compiler, flags = [*CXX_20, f"-I{room}/owners{number}"], ["-DOWNERS", "-DPATIENCE=3"]
-        program = Program("checks/built/look_order.c", [DISPATCH], compiler, flags)
-        yield Row(f"owners without {what}", must_be_seen, (room, program, wait_faults.LOST))
+        program = Program(f"checks/built/{name}.c", [LANES], compiler, flags, OF_LANES_THAT_SLEEP[name])
+        yield Row(f"owners of lanes: {what}", must_be_seen, (room, program, said))
     for number, (what, said) in enumerate(wait_faults.OF_A_LIBRARY, 1):
-        program = Program(CALLS("sleep"), [DISPATCH], C, ["-DPATIENCE=3", *wait_faults.shim(number)], ["2000"])
+        program = Program(CALLS("sleep"), [LANES], C, ["-DPATIENCE=3", *wait_faults.shim(number)], ["2000"])
         yield Row(what, must_be_seen, (room, program, said))
 
 
-def rows_of_owners(room, longer):
-    """Yields the owners of C++, the workers that sleep, and the batch scheduler."""
+def rows_of_owners(room):
+    """Yields the owners of C++, and the batch scheduler."""
     for compiler in ([*CXX, *ADDRESSES], CXX_17, [*CXX_20, *ADDRESSES], CLANG_20, RACES_20):
         placed, name = PLACED if compiler is RACES_20 else (), "checks/built/owners_calls.cpp"
-        program = Program(name, [REGIONS, FIT, PLAN, DISPATCH], [*compiler, MOVES], placed=placed)
+        program = Program(name, [REGIONS, FIT, PLAN, LANES], [*compiler, MOVES], placed=placed)
         yield Row(" ".join([name, "by", *placed, *compiler]), must_run, (room, program))
         program = Program("checks/built/owners_codes.cpp", program.libraries, [*compiler, "-fno-exceptions"], placed=placed)
         yield Row(" ".join([program.source, "by", *placed, *program.compiler]), must_run, (room, program))
-        program = Program("examples/jobs.cpp", [DISPATCH], compiler, placed=placed, shown="examples/jobs.out")
+        program = Program("examples/lanes.cpp", [LANES], compiler, placed=placed, shown="examples/lanes.out")
         yield Row(" ".join([program.source, "by", *placed, *compiler]), must_run, (room, program))
-    for compiler, jobs in ((CHECKED, 5000), (RACES, 500), (CLANG, 1000), (CXX, 20_000), ([*C, CONDITION], 5000)):
-        placed = PLACED if compiler in (RACES, CLANG) else ()
-        program = Program(CALLS("sleep"), [DISPATCH], compiler, words=[str(min(jobs * longer, 10**6))], placed=placed)
-        yield Row(" ".join(["sleeping workers by", *placed, *compiler]), must_run, (room, program))
-    again = Program(CALLS("sleep"), [DISPATCH], C, wait_faults.shim(6), ["2000"])
-    yield Row("wakes and finds that are called again", must_run, (room, again))
-    for compiler, flags in ((CHECKED, ()), (CHECKED, ["-DLANES"]), (CXX_20, ["-DOWNERS"])):
-        program = Program("checks/built/look_order.c", [DISPATCH], compiler, flags)
-        yield Row(" ".join(["scripted orders of workers by", *compiler, *flags]), must_run, (room, program))
-    for source, compilers in (("c", (CHECKED, RACES)), ("cpp", ([*CXX_20, *ADDRESSES], RACES_20))):
+    for source, compilers in (("c", (CHECKED, RACES)), ("cpp", ([*CXX_17, *ADDRESSES], RACES_20))):
         for compiler in compilers:
             placed = PLACED if compiler in (RACES, RACES_20) else ()
-            program = Program(f"examples/batch.{source}", [DISPATCH], compiler, placed=placed)
+            program = Program(f"examples/batch.{source}", [SCHED], compiler, placed=placed)
             yield Row(" ".join([program.source, "by", *placed, *compiler]), batch.must_work, (room, program))
 
 
+def rows_of_sleepers(room, longer):
+    """Yields the workers and the submits of lanes that sleep."""
+    for compiler, jobs in ((CHECKED, 5000), (RACES, 500), (CLANG, 1000), (CXX, 20_000), ([*C, CONDITION], 5000)):
+        placed = PLACED if compiler in (RACES, CLANG) else ()
+        program = Program(CALLS("sleep"), [LANES], compiler, words=[str(min(jobs * longer, 10**6))], placed=placed)
+        yield Row(" ".join(["sleeping workers by", *placed, *compiler]), must_run, (room, program))
+    again = Program(CALLS("sleep"), [LANES], C, wait_faults.shim(5), ["2000"])
+    yield Row("wakes and finds that are called again", must_run, (room, again))
+    owners = [*CXX, *ADDRESSES, "-DOWNERS"], [*CXX_20, *ADDRESSES, "-DOWNERS"], [*RACES_20, "-DOWNERS"]
+    for compiler in (CHECKED, RACES, CLANG, CXX, [*CHECKED, CONDITION], *owners):
+        placed = PLACED if {"-fsanitize=thread", "-fsanitize=memory"} & {*compiler} else ()
+        program = Program(CALLS("room"), [LANES], compiler, words=[str(100 * longer)], placed=placed)
+        yield Row(" ".join(["sleeping submits by", *placed, *compiler]), must_run, (room, program))
+    for compiler, flags in ((CHECKED, ()), ([*C, CONDITION], ()), (CXX_20, ["-DOWNERS"])):
+        program = Program("checks/built/look_order.c", [LANES], compiler, flags)
+        yield Row(" ".join(["scripted orders of lanes by", *compiler, *flags]), must_run, (room, program))
+
+
 def programs_of_crowds(longer, seconds):
-    """Yields 16 producers and eight workers, with memory of each job and of each processor, which must end well. The
-    workers try again, or sleep. In a long run there are 10^7 jobs, 25 rounds of 10^5, and rounds of 4,000 under each
-    sanitizer for these seconds."""
+    """Yields 16 producers and eight workers, with memory of each job, which must end well. The threads try again, or sleep.
+    In a long run there are 10^7 jobs, 25 rounds of 10^5, and rounds of 4,000 under each sanitizer for these seconds."""
     for sleeps in (), ("-DSLEEP",):
-        libraries = [DISPATCH, REGIONS] if sleeps else [DISPATCH]
         for (compiler, flags, placed), jobs in zip((*WATCHED, (CXX, (), ())), (100_000, 4000, 20_000, 400, 100_000)):
-            yield Program(CALLS("jobs"), libraries, compiler, [*flags, *sleeps], [str(jobs)], placed)
+            yield Program(CALLS("jobs"), [LANES], compiler, [*flags, *sleeps], [str(jobs)], placed)
         if longer > 1:
-            yield Program(CALLS("jobs"), libraries, C, sleeps, [str(10**7)])
-            yield Program(CALLS("jobs"), libraries, C, sleeps, ["100000", "0", "25"])
+            yield Program(CALLS("jobs"), [LANES], C, sleeps, [str(10**7)])
+            yield Program(CALLS("jobs"), [LANES], C, sleeps, ["100000", "0", "25"])
             for compiler, flags, placed in WATCHED:
-                yield Program(CALLS("jobs"), libraries, compiler, [*flags, *sleeps], ["4000", str(seconds)], placed)
+                yield Program(CALLS("jobs"), [LANES], compiler, [*flags, *sleeps], ["4000", str(seconds)], placed)
 
 
 def rows_of_crowds(room, longer, seconds):
     for program in programs_of_crowds(longer, seconds):
         title = " ".join(["a crowd of", *program.words, "by", *program.placed, *program.compiler, *program.flags])
         yield Row(title, must_run, (room, program))
-    race = Program(CALLS("jobs"), [DISPATCH], RACES, ["-DUNGUARDED"], ["4000"], PLACED)
-    warning = b"WARNING: ThreadSanitizer: data race"
-    yield Row("a race beside a job's block is seen", must_be_seen, (room, race, warning))
 
 
 def rows_of_regions(room, longer, seconds):
@@ -344,9 +453,11 @@ def rows(room, longer, seconds):
     yield from rows_of_regions(room, longer, seconds)
     yield from rows_of_lanes(room, longer)
     yield from rows_of_crowds(room, longer, seconds)
+    yield from rows_of_sched(room, longer, seconds)
     yield from rows_of_waits(room)
-    yield from rows_of_owners(room, longer)
-    yield from misuse.rows(room, *(f"{room}/lib{it}.a" for it in (REGIONS, DISPATCH, FIT, PLAN)))
+    yield from rows_of_owners(room)
+    yield from rows_of_sleepers(room, longer)
+    yield from misuse.rows(room, *(f"{room}/lib{it}.a" for it in (REGIONS, LANES, FIT, PLAN)))
     for source, example in (("examples/pinjobs.c", pinjobs), ("examples/event_loop.c", event_loop)):
         for compiler in (CHECKED, [*CLANG[:2], "-xc"]):
             program = Program(source, [PLAN], compiler)
@@ -357,7 +468,7 @@ def rows(room, longer, seconds):
         yield Row(f"{program.source} by {' '.join(program.compiler)}", must_run, (room, program))
     yield from rows_of_fit(room)
     # A library keeps its names to itself: it is linked whole beside the other one, and beside a program's own names.
-    for whole in ([FIT, PLAN, DISPATCH, ROUNDS, REGIONS], [REGIONS, ROUNDS, DISPATCH, PLAN, FIT], []):
+    for whole in ([*archive.LIBRARIES], [*archive.LIBRARIES[::-1]], []):
         both = ["-Wl,--whole-archive", *whole, "-Wl,--no-whole-archive"] if whole else [REGIONS]
         names = Program("examples/regions.c", both, C, ["-xc", f"{room}/own.c", "-xnone"], shown="examples/regions.out")
         yield Row(f"names of its own, and {' and '.join(whole) or REGIONS}", must_run, (room, names))

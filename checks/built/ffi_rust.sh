@@ -67,15 +67,17 @@ event_loop() {
         || { echo "ffi: event_loop, wanted and shown:"; cat "$work/log"; exit 1; }
 }
 
-libraries='libcubejobs_fit.a libcubejobs_rounds.a libcubejobs_dispatch.a libcubejobs_plan.a libcubejobs_regions.a'
+libraries='libcubejobs_fit.a libcubejobs_rounds.a libcubejobs_lanes.a libcubejobs_plan.a libcubejobs_regions.a
+libcubejobs_sched.a'
 jobs='40 jobs ran on 248 processors in all'
 first_fit='0..2 4..8, then: a part of each block of this dimension is in use'
 groups='3000 jobs on groups of 16 workers'
+tasks='8 tasks ran jobs with a sum of 499500'
 blocks='4000 blocks with 24800 processors in all'
 global_alloc='59452000 bytes in vectors, and each had one owner'
 
 quiet cargo test --offline
-for features in '' dispatch 'dispatch std' plan 'plan std' regions 'regions std' 'dispatch regions'; do
+for features in '' lanes 'lanes std' plan 'plan std' regions 'regions std' sched 'lanes regions'; do
     quiet cargo check --offline --no-default-features --features "$features" --all-targets
 done
 if cargo clippy --version > "$work/log" 2>&1; then
@@ -90,7 +92,8 @@ shows "$blocks" cargo run --quiet --offline --example blocks
 shows "$global_alloc" cargo run --quiet --offline --example global_alloc
 shows "$jobs" cargo run --quiet --offline --example jobs
 shows 55 cargo run --quiet --offline --example park
-awk 'BEGIN { for (i = 0; i < 60; i++) print i % 5, i * 7 % 20 }' > "$work/jobs"
+shows "$tasks" cargo run --quiet --offline --example tasks
+awk 'BEGIN { for (i = 0; i < 60; i++) print 1 + i % 16, i * 7 % 20 }' > "$work/jobs"
 batch < /dev/null
 [ "$ended" = 60 ] || { echo "ffi: only $ended jobs have ended"; exit 1; }
 batch --stop-after 10 < /dev/null
@@ -100,11 +103,11 @@ batch --stop-after 0 < /dev/null
 [ "$ended" = 0 ] || { echo "ffi: $ended jobs have ended, and not 0"; exit 1; }
 : > "$work/empty"
 shows '0 jobs have ended, and 0 are left' cargo run --quiet --offline --example batch -- "$work/empty" < /dev/null
-printf '1 5\n5 5\n' > "$work/wrong"
-refused 'Error: "line 2: the dimension is a number from 0 to 4"' \
+printf '1 5\n17 5\n' > "$work/wrong"
+refused 'Error: "line 2: the processors are a number from 1 to 16"' \
     cargo run --quiet --offline --example batch -- "$work/wrong" < /dev/null
 printf '1 5\n\n' > "$work/wrong"
-refused 'Error: "line 2: a job is DIM MILLISECONDS"' \
+refused 'Error: "line 2: a job is PROCESSORS MILLISECONDS"' \
     cargo run --quiet --offline --example batch -- "$work/wrong" < /dev/null
 cat > "$work/lines" << END
 4 0 until grep -q '^2 is cancelled' '$work/shown'; do sleep 0.01; done
@@ -167,7 +170,7 @@ echo "ffi: a Rust program names the package by its path; a missing library is on
 mkdir "$work/empty_lib"
 export CUBEJOBS_LIB="$work/empty_lib"
 quiet cargo test --offline --features source
-for features in '' dispatch 'dispatch std' plan 'plan std' regions 'regions std' 'dispatch regions'; do
+for features in '' lanes 'lanes std' plan 'plan std' regions 'regions std' sched 'lanes regions'; do
     quiet cargo check --offline --no-default-features --features "source $features" --all-targets
 done
 if cargo clippy --version > "$work/log" 2>&1; then
@@ -181,6 +184,7 @@ shows "$blocks" cargo run --quiet --offline --features source --example blocks
 shows "$global_alloc" cargo run --quiet --offline --features source --example global_alloc
 shows "$jobs" cargo run --quiet --offline --features source --example jobs
 shows 55 cargo run --quiet --offline --features source --example park
+shows "$tasks" cargo run --quiet --offline --features source --example tasks
 event_loop --features source
 quiet cargo test --offline -p cubejobs-pool --features cubejobs/source
 echo "ffi: the form of plain Rust passes the tests, documents and examples of the Rust package and of the pool"

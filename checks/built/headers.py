@@ -16,12 +16,14 @@ from typing import NamedTuple
 from checks.lib.repository import path, read, write
 from checks.lib.rows import Row, Skipped, answer, must, run_rows
 
-NAMES = ("cubejobs.h", "cubejobs_codes.h", "cubejobs_dispatch.h", "cubejobs_fit.h", "cubejobs_plan.h",
-         "cubejobs_regions.h", "cubejobs_rounds.h")
+NAMES = ("cubejobs.h", "cubejobs_codes.h", "cubejobs_fit.h", "cubejobs_lanes.h", "cubejobs_plan.h",
+         "cubejobs_regions.h", "cubejobs_rounds.h", "cubejobs_sched.h", "cubejobs_sleep.h")
 # A struct with the name of the function that returns it.
-NAMED_TWICE = ("cubejobs_plan_counts",)
+NAMED_TWICE = ("cubejobs_plan_counts", "cubejobs_sched_counts", "cubejobs_sched_forecast", "cubejobs_sched_worker")
 # Headers that begin with a later standard, and those in which they have no part.
-LATER = {"cubejobs_wait.h": ("c89", "c99", "c++98"), "cubejobs.hpp": ("c89", "c99", "c11", "c17", "c2x", "c++98")}
+NO_CXX_11 = ("c89", "c99", "c11", "c17", "c2x", "c++98")
+LATER = {"cubejobs_wait.h": ("c89", "c99", "c++98"), "cubejobs_error.hpp": NO_CXX_11, "cubejobs.hpp": NO_CXX_11,
+         "cubejobs_sched.hpp": (*NO_CXX_11, "c++11", "c++14")}
 NOWHERE = ["-o", "/dev/null"]
 WARNINGS = ["-Werror", "-Wall", "-Wextra", "-pedantic", "-Wconversion", "-Wshadow"]
 MORE = {"gcc": [], "clang": ["-Wcomma", "-Wmissing-variable-declarations"], "g++": ["-Weffc++", "-Wold-style-cast"],
@@ -43,13 +45,17 @@ class Call(NamedTuple):
     code: str = ""
 
 
-REGIONS, LANES, FIT, PLAN = "cubejobs_regions.h", "cubejobs_dispatch.h", "cubejobs_fit.h", "cubejobs_plan.h"
+REGIONS, LANES, FIT, PLAN = "cubejobs_regions.h", "cubejobs_lanes.h", "cubejobs_fit.h", "cubejobs_plan.h"
+SCHED, WAIT = "cubejobs_sched.h", "cubejobs_wait.h"
 OF_FIT = "struct cubejobs_fit fit; (void)&fit"
 OF_PLAN = "struct cubejobs_plan plan; static struct cubejobs_plan_options options; static struct cubejobs_plan_request "
 OF_PLAN += "request; (void)&plan; (void)&options; (void)&request"
+OF_SCHED = "struct cubejobs_sched sched; static struct cubejobs_sched_options options; static struct cubejobs_sched_request "
+OF_SCHED += "request; static struct cubejobs_sched_worker worker; (void)&sched; (void)&options; (void)&request; (void)&worker"
 OF_REGIONS = "struct cubejobs_regions one, other; static struct cubejobs_block block, half; (void)&other; (void)&half; (void)&block"
-OF_LANES = "struct cubejobs_lanes lanes; static struct cubejobs_lane lane; static struct cubejobs_worker worker; static struct "
-OF_LANES += "cubejobs_shared_lane shared, more; (void)&lanes; (void)&lane; (void)&worker; (void)&shared; (void)&more"
+OF_LANES = "struct cubejobs_lanes lanes; static struct cubejobs_lane lane; static struct cubejobs_worker worker; (void)&lanes; "
+OF_LANES += "(void)&lane; (void)&worker"
+OF_PARKING = f"{OF_LANES}; static struct cubejobs_parking parking; (void)&parking"
 CALLS = (
     Call(REGIONS, OF_REGIONS, "cubejobs_regions_open(&one, 3)"),
     Call(REGIONS, OF_REGIONS, "cubejobs_regions_share(&one, &other)"),
@@ -61,11 +67,12 @@ CALLS = (
     Call(LANES, OF_LANES, "cubejobs_lanes_open(&lanes, 1, 1, 1)"),
     Call(LANES, OF_LANES, "cubejobs_lanes_lane(&lanes, &lane)"),
     Call(LANES, OF_LANES, "cubejobs_lanes_worker(&lanes, &worker)"),
-    Call(LANES, OF_LANES, "cubejobs_lanes_share(&lane, &shared)"),
-    Call(LANES, OF_LANES, "cubejobs_lanes_share_again(&shared, &more)"),
     Call(LANES, OF_LANES, "cubejobs_lanes_submit(&lane, 1, 0)", ".code"),
-    Call(LANES, OF_LANES, "cubejobs_lanes_submit_shared(&shared, 1, 0)", ".code"),
     Call(LANES, OF_LANES, "cubejobs_lanes_take_any(&worker, 0)", ".code"),
+    Call(WAIT, OF_PARKING, "cubejobs_lanes_submit_and_wake(&lane, 1, 0, &parking)", ".code"),
+    Call(WAIT, OF_PARKING, "cubejobs_lanes_submit_until(&lane, 1, 0, &parking, 0)", ".code"),
+    Call(WAIT, OF_PARKING, "cubejobs_lanes_take_any_and_raise(&worker, 0, &parking)", ".code"),
+    Call(WAIT, OF_PARKING, "cubejobs_lanes_wait(&worker, 0, &parking)", ".code"),
     *(Call(FIT, OF_FIT, f"cubejobs_fit_{it}(&fit, 0, 0, 3)") for it in ("open", "attach", "repair")),
     Call(FIT, OF_FIT, "cubejobs_fit_take(&fit, 1)", ".code"),
     Call(FIT, OF_FIT, "cubejobs_fit_take_at(&fit, 2, 1)", ".code"),
@@ -74,6 +81,11 @@ CALLS = (
     Call(PLAN, OF_PLAN, "cubejobs_plan_open(&plan, options, 0)"),
     Call(PLAN, OF_PLAN, "cubejobs_plan_submit(&plan, request)", ".code"),
     Call(PLAN, OF_PLAN, "cubejobs_plan_next(&plan, 1)", ".code"),
+    Call(SCHED, OF_SCHED, "cubejobs_sched_open(&sched, options)"),
+    Call(SCHED, OF_SCHED, "cubejobs_sched_submit(&sched, request, 0)", ".code"),
+    Call(SCHED, OF_SCHED, "cubejobs_sched_worker(&sched, &worker)"),
+    Call(SCHED, OF_SCHED, "cubejobs_sched_next(&worker, 0)", ".code"),
+    Call(SCHED, OF_SCHED, "cubejobs_sched_rest(&sched)", ".code"),
 )
 # Each header with an enum of codes: what has one, and how it is read.
 KINDS = (
@@ -81,9 +93,11 @@ KINDS = (
     (FIT, "cubejobs_fit_code", ("struct cubejobs_fit_occupancy_answer", "it.code")),
     (PLAN, "cubejobs_plan_code", ("struct cubejobs_plan_job", "it.code")),
     (PLAN, "cubejobs_plan_code", ("struct cubejobs_plan_counts", "it.code")),
+    *((SCHED, "cubejobs_sched_code", (f"struct cubejobs_sched_{it}", "it.code"))
+      for it in ("job", "answer", "counts", "forecast")),
     (REGIONS, "cubejobs_regions_code", ("struct cubejobs_regions_answer", "cubejobs_regions_code_of(it)")),
     (REGIONS, "cubejobs_regions_code", ("struct cubejobs_regions_occupancy_answer", "it.code")),
-    (LANES, "cubejobs_dispatch_code", ("struct cubejobs_submit_answer", "it.code")),
+    (LANES, "cubejobs_lanes_code", ("struct cubejobs_submit_answer", "it.code")),
     ("cubejobs_rounds.h", "cubejobs_rounds_code", ("struct cubejobs_step_answer", "it.code")),
 )
 # A fault in a header, and the language that refuses it.
@@ -153,13 +167,15 @@ def must_have_each_case(folder, compiler, standard, kind):
 
 def tries_of(compiler):
     """Yields the headers that are compiled together, and the flags."""
-    for names in (*([name] for name in (*NAMES, *LATER)), NAMES, NAMES[::-1], (*NAMES, *LATER)):
+    without_one = [it for it in LATER if it != "cubejobs_sched.hpp"]
+    for names in (*([name] for name in (*NAMES, *LATER)), NAMES, NAMES[::-1], (*NAMES, *without_one), (*NAMES, *LATER)):
         yield names, ()
-    yield ["cubejobs_wait.h"], ("-DCUBEJOBS_EVENT_CONDITION",)
+    for it in ("cubejobs_wait.h", "cubejobs_sched.h", "cubejobs_sched.hpp"):
+        yield [it], ("-DCUBEJOBS_EVENT_CONDITION",)
     yield ["cubejobs_wait.h"], (CHECKED,)
     yield ["cubejobs_regions.h"], (CHECKED, "-fsanitize=thread")
     if COMPILERS[compiler][0] == "c++":
-        yield ["cubejobs.hpp"], ("-fno-exceptions", "-fno-rtti")
+        yield from (([it], ("-fno-exceptions", "-fno-rtti")) for it in LATER if it.endswith(".hpp"))
         yield ["cubejobs.hpp"], (CHECKED,)
     if os.path.exists("/usr/include/valgrind/helgrind.h"):
         yield ["cubejobs_regions.h"], ("-DCUBEJOBS_HELGRIND", "-Wno-gnu-statement-expression", "-Wno-pedantic")
@@ -192,7 +208,7 @@ def main(words):
     for compiler, standards in known.items():
         for standard in {standards[0], standards[-1]}:
             rows += [Row(f"{compiler} -std={standard}: {it.words} is used", must_not_be_ignored, (folder, compiler, standard, it))
-                     for it in CALLS]
+                     for it in CALLS if standard not in LATER.get(it.header, ())]
             rows += [Row(f"{compiler} -std={standard}: the cases of {it[2][0]}", must_have_each_case,
                          (folder, compiler, standard, it)) for it in KINDS]
     for compiler, standards in known.items():

@@ -22,14 +22,15 @@ from checks.lib.rows import AS_NOBODY, Row, Skipped, answer, must, output, put, 
 from checks.source import version
 
 # The examples in C and C++ that end by themselves, with the words that they need. Their output is beside them.
-EXAMPLES = ("arena.c", "blocks.cpp", "fit.c", "jobs.cpp", "lanes.c", "plan.c", "regions.c", "rounds.c", "wait.c")
+EXAMPLES = ("arena.c", "blocks.cpp", "fit.c", "lanes.c", "lanes.cpp", "plan.c", "regions.c", "rounds.c", "sched.c", "tasks.cpp",
+            "wait.c")
 # The examples in Rust, with what each prints. In `blocks` there are 800 blocks each of 1, 2, 4, 8 and 16 processors, and
 # in `park` the payloads 1 to 10 are added up. In `global_alloc` each of 4 threads makes vectors of 1 + 7t mod 3000 bytes for
 # each t below 10,000.
 IN_RUST = {
     "jobs": "40 jobs ran on 248 processors in all\n", "first_fit": "0..2 4..8, then: a part of each block of this dimension is in use\n",
     "groups": "3000 jobs on groups of 16 workers\n", "blocks": "4000 blocks with 24800 processors in all\n",
-    "park": "55\n", "batch": "40 jobs have ended, and 0 are left\n",
+    "park": "55\n", "tasks": "8 tasks ran jobs with a sum of 499500\n", "batch": "40 jobs have ended, and 0 are left\n",
     "global_alloc": "59452000 bytes in vectors, and each had one owner\n"}
 # The form of the package, by its feature.
 FORMS = {"": "over the libraries", "source": "as plain Rust"}
@@ -38,16 +39,16 @@ project(user C CXX)
 find_package(cubejobs REQUIRED)
 add_executable(regions regions.c)
 target_link_libraries(regions cubejobs::regions)
-add_executable(jobs jobs.cpp)
-target_link_libraries(jobs cubejobs::dispatch_static cubejobs::regions_static cubejobs::fit_static)
+add_executable(lanes lanes.cpp)
+target_link_libraries(lanes cubejobs::lanes_static cubejobs::regions_static cubejobs::fit_static)
 """
 # Words of find_package, and what CMake says where it finds nothing. Before a release, its version is not there yet.
 NUMBER, _, DEV = version.of_sources().partition("-")
 OTHER = "compatible with requested version"
 PACKAGES = (
     ("cubejobs", ""), (f"cubejobs {NUMBER} REQUIRED", DEV and OTHER), ("cubejobs 0.1 REQUIRED", OTHER),
-    ("cubejobs 99.0 REQUIRED", OTHER), ("cubejobs REQUIRED COMPONENTS fit plan regions_static dispatch rounds", ""),
-    ("cubejobs REQUIRED COMPONENTS fit nonsense", "cubejobs has no component nonsense, but fit, plan, regions, dispatch and rounds"),
+    ("cubejobs 99.0 REQUIRED", OTHER), ("cubejobs REQUIRED COMPONENTS fit plan sched regions_static lanes rounds", ""),
+    ("cubejobs REQUIRED COMPONENTS fit nonsense", "cubejobs has no component nonsense, but fit, plan, sched, regions, lanes and rounds"),
     ("cubejobs REQUIRED OPTIONAL_COMPONENTS nonsense", ""))
 # Versions, how pkg-config and CMake must compare them, and which requests of CMake they must serve or refuse.
 VERSIONS = (
@@ -62,14 +63,14 @@ VERSIONS = (
 # The files of each part, as patterns of their paths below the prefix: each file fits one, and each pattern has a file.
 DOC = r"share/doc/cubejobs"
 PARTS = {
-    "c": (r"include/cubejobs\w*\.(c|h|hpp)", r"lib/libcubejobs_(fit|plan|regions|dispatch|rounds)\.a",
-          r"lib/libcubejobs_(fit|plan|regions|dispatch|rounds)\.so(\.\d+\.\d+(\.\d+)?)?", r"lib/pkgconfig/cubejobs\w*\.pc",
+    "c": (r"include/cubejobs\w*\.(c|h|hpp)", r"lib/libcubejobs_(fit|plan|sched|regions|lanes|rounds)\.a",
+          r"lib/libcubejobs_(fit|plan|sched|regions|lanes|rounds)\.so(\.\d+\.\d+(\.\d+)?)?", r"lib/pkgconfig/cubejobs\w*\.pc",
           r"lib/cmake/cubejobs/cubejobs-config(-version)?\.cmake", r"share/man/man3/cubejobs_\w+\.3", rf"{DOC}/docs/C\.md",
-          rf"{DOC}/examples/\w+\.c(pp)?", rf"{DOC}/examples/(?!processes|day)\w+\.out", rf"{DOC}/examples/batch\.jobs",
+          rf"{DOC}/examples/\w+\.c(pp)?", rf"{DOC}/examples/(?!processes|day|gang)\w+\.out", rf"{DOC}/examples/batch\.jobs",
           rf"{DOC}/examples/mpi/\w+\.(c|md)"),
     "rust": (r"share/cubejobs/rust/.*", rf"{DOC}/docs/(RUST|SOURCE)\.md", rf"{DOC}/examples/batch\.jobs"),
-    "python": (r"share/cubejobs/python/cubejobs/(\w+\.py|py\.typed)", rf"{DOC}/examples/(processes|day)\.(py|out)",
-               r"lib/libcubejobs_(fit|plan|regions)\.so\.\d+\.\d+(\.\d+)?"),
+    "python": (r"share/cubejobs/python/cubejobs/(\w+\.py|py\.typed)", rf"{DOC}/examples/(processes|day|gang)\.(py|out)",
+               r"lib/libcubejobs_(fit|plan|sched|regions)\.so\.\d+\.\d+(\.\d+)?"),
     "program": (r"bin/cubejobs", r"share/man/man1/cubejobs\.1", r"share/cubejobs/index\.html",
                 r"share/bash-completion/completions/cubejobs", r"share/zsh/site-functions/_cubejobs",
                 r"share/fish/vendor_completions\.d/cubejobs\.fish", rf"{DOC}/docs/GUIDE\.md",
@@ -162,7 +163,7 @@ class Place:
         needs("cmake", "cc", "c++")
         room = self.room(f"cmake-{name}")
         write(f"{room}/CMakeLists.txt", lines)
-        for file in ("regions.c", "jobs.cpp"):
+        for file in ("regions.c", "lanes.cpp"):
             shutil.copy(os.path.join(self.clone, "examples", file), room)
         status, out, said = answer(["cmake", "-S", room, "-B", f"{room}/build", *defines], "", text=True)
         return room, status, out + said
@@ -172,7 +173,7 @@ class Place:
         room, status, said = self.configured(name, CMAKE, *defines)
         must(status == 0, f"cmake: {said[-800:]}")
         output(["cmake", "--build", f"{room}/build"], timeout=300)
-        for example in ("regions", "jobs"):
+        for example in ("regions", "lanes"):
             wanted = read(os.path.join(self.clone, "examples", f"{example}.out"))
             must(output([f"{room}/build/{example}"]) == wanted, f"{example} has another output")
 
@@ -191,9 +192,9 @@ class Place:
         also works after a move, and for pkg-config with --define-prefix."""
         needs("pkg-config")
         one, other = os.path.join(self.work, "below"), os.path.join(self.work, "moved there")
-        self.must_install("--prefix", "/opt/of users", "--destdir", one)
-        self.built("below", f"-DCMAKE_PREFIX_PATH={one}/opt/of users")
-        os.rename(f"{one}/opt/of users", other)
+        self.must_install("--prefix", "/srv/of users", "--destdir", one)
+        self.built("below", f"-DCMAKE_PREFIX_PATH={one}/srv/of users")
+        os.rename(f"{one}/srv/of users", other)
         self.built("moved", f"-DCMAKE_PREFIX_PATH={other}")
         for file in ("cubejobs-config.cmake", "cubejobs-config-version.cmake"):
             must("of users" not in read(other, "lib/cmake/cubejobs", file), f"{file} has a path of the installation")
@@ -205,11 +206,11 @@ class Place:
     def libraries_elsewhere(self):
         """The folder of the libraries may lie outside the prefix. A symbolic link may lead to it."""
         room = os.path.join(self.work, "elsewhere")
-        self.must_install("--prefix", "/opt/p", "--libdir", "/usr/lib 64", "--destdir", room)
+        self.must_install("--prefix", "/srv/p", "--libdir", "/usr/lib 64", "--destdir", room)
         self.built("elsewhere", f"-Dcubejobs_DIR={room}/usr/lib 64/cmake/cubejobs")
         os.symlink("usr/lib 64", f"{room}/lib")
         self.built("link", f"-Dcubejobs_DIR={room}/lib/cmake/cubejobs")
-        shutil.rmtree(f"{room}/opt/p/include")
+        shutil.rmtree(f"{room}/srv/p/include")
         _, status, said = self.configured("none", CMAKE, f"-Dcubejobs_DIR={room}/lib/cmake/cubejobs")
         must(status != 0 and "The headers of cubejobs are not where" in " ".join(said.split()), said[-600:])
 
@@ -294,7 +295,7 @@ class Place:
 
     def with_man(self):
         needs("man")
-        for section, name in (("1", "cubejobs"), ("3", "cubejobs_regions"), ("3", "cubejobs_dispatch")):
+        for section, name in (("1", "cubejobs"), ("3", "cubejobs_regions"), ("3", "cubejobs_lanes")):
             page = self.of("share", "man", f"man{section}", f"{name}.{section}")
             must("NAME" in output(["man", "-l", page], env={**os.environ, "MANWIDTH": "80"}), f"no page {name}")
 

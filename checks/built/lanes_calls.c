@@ -1,10 +1,10 @@
 /* Calls the lanes of the library for jobs from C or C++: each code where it must come, handles that are shut, foreign or
- * of the wrong kind, random calls beside a plain model, and then four producers and four workers, who hand over plain
+ * of the wrong kind, random calls beside a plain model, and then four producers and four workers, which hand over plain
  * memory. With `lanes_calls JOBS` each producer submits JOBS jobs. With UNGUARDED a producer writes to the memory of a
  * job that it has submitted, which a sanitizer must see. */
-#include "cubejobs_dispatch.h"
+#include "cubejobs_lanes.h"
 
-/* Helgrind does not see the words that pass a shared lane, or a handle that comes back, to another thread. */
+/* Helgrind does not see the words that pass a handle that comes back to another thread. */
 #ifdef CUBEJOBS_HELGRIND
 #define UNDER_HELGRIND 1
 #else
@@ -26,7 +26,7 @@ static void want(int line, uint64_t got, uint64_t wanted) {
     expect_at("lanes_calls.c", line, got == wanted, "another answer");
 }
 #define WANT(got, wanted) want(__LINE__, (got), (wanted))
-#define IS(got, code) want(__LINE__, (got), CUBEJOBS_DISPATCH_##code)
+#define IS(got, code) want(__LINE__, (got), CUBEJOBS_LANES_##code)
 
 static void want_job(int line, struct cubejobs_job_answer got, uint32_t code, uint32_t lane, uint32_t k, uint64_t seq,
                      uint64_t payload, uint64_t left) {
@@ -35,8 +35,8 @@ static void want_job(int line, struct cubejobs_job_answer got, uint32_t code, ui
     unsigned i;
     for (i = 0; i < 6; i++) want(line, found[i], wanted[i]);
 }
-#define GIVES(got, lane, k, seq, payload, left) want_job(__LINE__, (got), CUBEJOBS_DISPATCH_DONE, lane, k, seq, payload, left)
-#define REFUSES(got, code) want_job(__LINE__, (got), CUBEJOBS_DISPATCH_##code, 0, 0, 0, 0, 0)
+#define GIVES(got, lane, k, seq, payload, left) want_job(__LINE__, (got), CUBEJOBS_LANES_DONE, lane, k, seq, payload, left)
+#define REFUSES(got, code) want_job(__LINE__, (got), CUBEJOBS_LANES_##code, 0, 0, 0, 0, 0)
 #define ACCEPTS(got, number) \
     do { \
         struct cubejobs_submit_answer given = (got); \
@@ -48,7 +48,6 @@ static void no_handle(void *bytes, uint32_t code) {
     struct cubejobs_lanes before, *owner = (struct cubejobs_lanes *)bytes;
     struct cubejobs_lane *lane = (struct cubejobs_lane *)bytes, one = {0, 0};
     struct cubejobs_worker *worker = (struct cubejobs_worker *)bytes, two = {0, 0};
-    struct cubejobs_shared_lane many = {0, 0};
     before = *owner;
     WANT(cubejobs_lanes_lane(owner, &one), code);
     WANT(cubejobs_lanes_worker(owner, &two), code);
@@ -57,38 +56,34 @@ static void no_handle(void *bytes, uint32_t code) {
     want_job(__LINE__, cubejobs_lanes_take_any(worker, 0), code, 0, 0, 0, 0, 0);
     WANT(cubejobs_lanes_look(worker, 0).code, code);
     WANT(cubejobs_lanes_close(owner).code, code);
-    WANT(cubejobs_lanes_share(lane, &many), code);
-    WANT(cubejobs_lanes_share_again((struct cubejobs_shared_lane *)bytes, &many), code);
-    WANT(cubejobs_lanes_submit_shared((struct cubejobs_shared_lane *)bytes, 1, 1).code, code);
-    WANT(cubejobs_lanes_free_shared((struct cubejobs_shared_lane *)bytes), code);
     WANT(cubejobs_lanes_free_lane(lane), code);
     WANT(cubejobs_lanes_free_worker(worker), code);
     WANT(cubejobs_lanes_finish(owner).code, code);
     want_job(__LINE__, cubejobs_lanes_rest(owner), code, 0, 0, 0, 0, 0);
     WANT(cubejobs_lanes_free(owner), code);
-    WANT(one.tag | two.tag | many.tag, 0);
+    WANT(one.tag | two.tag, 0);
     WANT(memcmp(&before, owner, sizeof before), 0);
 }
 
 static void sizes(void) {
     static struct cubejobs_lanes made;
     struct cubejobs_lane_sizes one = {1, 1, 1};
-    IS(cubejobs_lanes_open_version(&made, CUBEJOBS_DISPATCH_VERSION + 1, one), BAD_VERSION);
-    IS(cubejobs_lanes_open_version(&made, CUBEJOBS_DISPATCH_VERSION - 1, one), BAD_VERSION);
+    IS(cubejobs_lanes_open_version(&made, CUBEJOBS_LANES_VERSION + 1, one), BAD_VERSION);
+    IS(cubejobs_lanes_open_version(&made, CUBEJOBS_LANES_VERSION - 1, one), BAD_VERSION);
     IS(cubejobs_lanes_open(&made, 0, 1, 1), BAD_SIZES);
     IS(cubejobs_lanes_open(&made, 1, 0, 1), BAD_SIZES);
     IS(cubejobs_lanes_open(&made, 1, 1, 0), BAD_SIZES);
     IS(cubejobs_lanes_open(&made, CUBEJOBS_LANES_MAX_LANES + 1, 1, 1), BAD_SIZES);
     IS(cubejobs_lanes_open(&made, 1, CUBEJOBS_LANES_MAX_WORKERS + 1, 1), BAD_SIZES);
     IS(cubejobs_lanes_open(&made, 1, 1, CUBEJOBS_LANES_MAX_CAPACITY + 1), BAD_SIZES);
-    no_handle(&made, CUBEJOBS_DISPATCH_NOT_OPEN);
+    no_handle(&made, CUBEJOBS_LANES_NOT_OPEN);
 }
 
 /* Ends lanes of which all handles are back. */
 static void end(struct cubejobs_lanes *owner) {
-    while (cubejobs_lanes_rest(owner).code == CUBEJOBS_DISPATCH_DONE) IS(cubejobs_lanes_free(owner), JOB_LEFT);
+    while (cubejobs_lanes_rest(owner).code == CUBEJOBS_LANES_DONE) IS(cubejobs_lanes_free(owner), JOB_LEFT);
     IS(cubejobs_lanes_free(owner), DONE);
-    no_handle(owner, CUBEJOBS_DISPATCH_NOT_OPEN);
+    no_handle(owner, CUBEJOBS_LANES_NOT_OPEN);
 }
 
 /* One thread, with two lanes of two jobs and two workers: each code. */
@@ -102,7 +97,7 @@ static void codes(void) {
     for (i = 0; i < 1000; i++) {
         bytes.tag = next(&seed) >> 16;
         bytes.at = (void *)(uintptr_t)next(&seed);
-        no_handle(&bytes, CUBEJOBS_DISPATCH_NOT_OPEN);
+        no_handle(&bytes, CUBEJOBS_LANES_NOT_OPEN);
     }
     IS(cubejobs_lanes_open(&made, 2, 2, 2), DONE);
     IS(cubejobs_lanes_open(&made, 2, 2, 2), ALREADY_OPEN);
@@ -156,7 +151,7 @@ static void codes(void) {
     IS(cubejobs_lanes_submit(&lanes[0], 1, 1).code, CLOSED);
     IS(cubejobs_lanes_lane(&second, &foreign), DONE);
     IS(cubejobs_lanes_free_lane(&lanes[0]), DONE);
-    no_handle(&lanes[0], CUBEJOBS_DISPATCH_NOT_OPEN);
+    no_handle(&lanes[0], CUBEJOBS_LANES_NOT_OPEN);
     IS(cubejobs_lanes_free_lane(&lanes[0]), NOT_OPEN);
     finish = cubejobs_lanes_finish(&made);
     IS(finish.code, LANE_OUT), WANT(finish.number, 1);
@@ -252,7 +247,7 @@ static void *produce(void *number) {
         one->lane = l, one->number = i;
         for (;;) {
             struct cubejobs_submit_answer got = cubejobs_lanes_submit(&crowd_lanes[l], (uint64_t)(uintptr_t)one, l);
-            if (got.code == CUBEJOBS_DISPATCH_DONE) {
+            if (got.code == CUBEJOBS_LANES_DONE) {
                 WANT(got.seq, i);
                 break;
             }
@@ -272,11 +267,11 @@ static void *consume(void *number) {
     unsigned long last[LANES] = {0};
     for (;;) {
         struct cubejobs_job_answer got = cubejobs_lanes_take_any(&crowd_workers[w], w);
-        if (got.code == CUBEJOBS_DISPATCH_ENDED) {
+        if (got.code == CUBEJOBS_LANES_ENDED) {
             IS(cubejobs_lanes_free_worker(&crowd_workers[w]), DONE);
             return NULL;
         }
-        if (got.code == CUBEJOBS_DISPATCH_DONE) {
+        if (got.code == CUBEJOBS_LANES_DONE) {
             struct cargo *one = (struct cargo *)(uintptr_t)got.payload;
             WANT(one->lane, got.lane), WANT(one->number, got.seq), WANT(got.dim, got.lane), WANT(one->seen, 0);
             expect(got.seq >= last[got.lane], "a job before an earlier one");
@@ -317,45 +312,28 @@ static void threads(void) {
     end(&crowd);
 }
 
-/* A shared lane: each code, and a lane that comes back with its last handle. */
-static void shares(void) {
+/* A lane with three jobs that are left, and another lane: which is out, and how many jobs are left after each. */
+static void rests(void) {
     static struct cubejobs_lanes made;
-    static struct cubejobs_lane lane;
+    static struct cubejobs_lane lane, other;
     static struct cubejobs_worker worker;
-    static struct cubejobs_shared_lane one, two, three;
     struct cubejobs_finish_answer finish;
     IS(cubejobs_lanes_open(&made, 2, 1, 3), DONE);
-    IS(cubejobs_lanes_lane(&made, &lane), DONE), IS(cubejobs_lanes_worker(&made, &worker), DONE);
+    IS(cubejobs_lanes_lane(&made, &lane), DONE), IS(cubejobs_lanes_lane(&made, &other), DONE);
+    IS(cubejobs_lanes_worker(&made, &worker), DONE);
     ACCEPTS(cubejobs_lanes_submit(&lane, 10, 1), 0);
-    IS(cubejobs_lanes_share((struct cubejobs_lane *)&worker, &one), OTHER_KIND);
-    IS(cubejobs_lanes_share_again((struct cubejobs_shared_lane *)&lane, &one), OTHER_KIND);
-    IS(cubejobs_lanes_submit_shared((struct cubejobs_shared_lane *)&lane, 1, 1).code, OTHER_KIND);
-    IS(cubejobs_lanes_free_shared((struct cubejobs_shared_lane *)&made), OTHER_KIND);
-    IS(cubejobs_lanes_share(&lane, &one), DONE);
-    IS(cubejobs_lanes_submit(&lane, 1, 1).code, NOT_OPEN);
-    IS(cubejobs_lanes_submit((struct cubejobs_lane *)&one, 1, 1).code, OTHER_KIND);
-    IS(cubejobs_lanes_free_lane((struct cubejobs_lane *)&one), OTHER_KIND);
-    IS(cubejobs_lanes_lane(&made, &lane), DONE);
-    IS(cubejobs_lanes_share(&lane, &one), ALREADY_OPEN);
-    IS(cubejobs_lanes_share_again(&one, &two), DONE);
-    IS(cubejobs_lanes_share_again(&one, &two), ALREADY_OPEN);
-    IS(cubejobs_lanes_share_again(&two, &three), DONE);
-    ACCEPTS(cubejobs_lanes_submit_shared(&one, 11, 2), 1);
-    ACCEPTS(cubejobs_lanes_submit_shared(&two, 12, 3), 2);
-    IS(cubejobs_lanes_submit_shared(&three, 13, 4).code, FULL);
+    ACCEPTS(cubejobs_lanes_submit(&lane, 11, 2), 1);
+    ACCEPTS(cubejobs_lanes_submit(&lane, 12, 3), 2);
+    IS(cubejobs_lanes_submit(&lane, 13, 4).code, FULL);
     GIVES(cubejobs_lanes_take(&worker, 0), 0, 1, 0, 10, 2);
-    IS(cubejobs_lanes_free_shared(&one), DONE);
-    IS(cubejobs_lanes_free_shared(&one), NOT_OPEN);
-    ACCEPTS(cubejobs_lanes_submit_shared(&three, 13, 4), 3);
+    ACCEPTS(cubejobs_lanes_submit(&lane, 13, 4), 3);
     WANT(cubejobs_lanes_close(&made).accepted, 4);
-    IS(cubejobs_lanes_submit_shared(&two, 14, 5).code, CLOSED);
-    IS(cubejobs_lanes_free_shared(&three), DONE);
     finish = cubejobs_lanes_finish(&made);
     IS(finish.code, LANE_OUT), WANT(finish.number, 0);
-    IS(cubejobs_lanes_free_shared(&two), DONE);
+    IS(cubejobs_lanes_free_lane(&lane), DONE);
     finish = cubejobs_lanes_finish(&made);
     IS(finish.code, LANE_OUT), WANT(finish.number, 1);
-    IS(cubejobs_lanes_free_lane(&lane), DONE), IS(cubejobs_lanes_free_worker(&worker), DONE);
+    IS(cubejobs_lanes_free_lane(&other), DONE), IS(cubejobs_lanes_free_worker(&worker), DONE);
     IS(cubejobs_lanes_finish(&made).code, DONE);
     GIVES(cubejobs_lanes_rest(&made), 0, 2, 1, 11, 2);
     GIVES(cubejobs_lanes_rest(&made), 0, 3, 2, 12, 1);
@@ -363,23 +341,24 @@ static void shares(void) {
     end(&made);
 }
 
-static struct cubejobs_shared_lane crowd_shares[LANES];
+static pthread_mutex_t sharers = PTHREAD_MUTEX_INITIALIZER;
 
 static void *share_out(void *number) {
     unsigned l = *(unsigned *)number;
     uint64_t i;
     for (i = 0; i < jobs / 8; i++) {
-        uint32_t code;
-        while ((code = cubejobs_lanes_submit_shared(&crowd_shares[l], i, l).code)) {
-            expect(code == CUBEJOBS_DISPATCH_FULL || code == CUBEJOBS_DISPATCH_BUSY, "another code");
-            sched_yield();
-        }
+        struct cubejobs_submit_answer got;
+        do {
+            pthread_mutex_lock(&sharers);
+            got = cubejobs_lanes_submit(&crowd_lanes[0], i, l);
+            pthread_mutex_unlock(&sharers);
+            if (got.code) IS(got.code, FULL), sched_yield();
+        } while (got.code);
     }
-    IS(cubejobs_lanes_free_shared(&crowd_shares[l]), DONE);
     return NULL;
 }
 
-/* Four producers share a lane, and one worker takes their jobs: each once, in the order of its producer. */
+/* Four producers share a lane under a lock, and one worker takes their jobs: each once, in the order of its producer. */
 static void crowd_of_sharers(void) {
     pthread_t threads[LANES];
     struct cubejobs_job_answer got;
@@ -387,8 +366,6 @@ static void crowd_of_sharers(void) {
     unsigned l;
     IS(cubejobs_lanes_open(&crowd, 1, 1, 8), DONE);
     IS(cubejobs_lanes_lane(&crowd, &crowd_lanes[0]), DONE), IS(cubejobs_lanes_worker(&crowd, &crowd_workers[0]), DONE);
-    IS(cubejobs_lanes_share(&crowd_lanes[0], &crowd_shares[0]), DONE);
-    for (l = 1; l < LANES; l++) IS(cubejobs_lanes_share_again(&crowd_shares[0], &crowd_shares[l]), DONE);
     for (l = 0; l < LANES; l++) expect(!pthread_create(&threads[l], NULL, share_out, &numbers[l]), "no thread");
     while (seq < LANES * (jobs / 8)) {
         got = cubejobs_lanes_take(&crowd_workers[0], 0);
@@ -400,7 +377,7 @@ static void crowd_of_sharers(void) {
         WANT(got.seq, seq++), WANT(got.payload, last[got.dim]++);
     }
     for (l = 0; l < LANES; l++) pthread_join(threads[l], NULL);
-    IS(cubejobs_lanes_free_worker(&crowd_workers[0]), DONE);
+    IS(cubejobs_lanes_free_lane(&crowd_lanes[0]), DONE), IS(cubejobs_lanes_free_worker(&crowd_workers[0]), DONE);
     WANT(cubejobs_lanes_close(&crowd).accepted, LANES * (jobs / 8));
     IS(cubejobs_lanes_finish(&crowd).code, DONE);
     end(&crowd);
@@ -428,8 +405,8 @@ static void returns(void) {
         WANT(cubejobs_lanes_close(&crowd).accepted, 1);
         for (l = 0; l < LANES; l++) expect(!pthread_create(&threads[l], NULL, come_back, &numbers[l]), "no thread");
         while ((got = cubejobs_lanes_finish(&crowd)).code) {
-            expect(got.code == CUBEJOBS_DISPATCH_LANE_OUT || got.code == CUBEJOBS_DISPATCH_WORKER_OUT ||
-                   got.code == CUBEJOBS_DISPATCH_STILL_SHARED, "another code");
+            expect(got.code == CUBEJOBS_LANES_LANE_OUT || got.code == CUBEJOBS_LANES_WORKER_OUT ||
+                   got.code == CUBEJOBS_LANES_STILL_SHARED, "another code");
             sched_yield();
         }
         for (l = 0; l < LANES; l++) pthread_join(threads[l], NULL);
@@ -438,10 +415,14 @@ static void returns(void) {
     }
 }
 
+static bool has_text(uint32_t code) { return strcmp(cubejobs_code_text(code), cubejobs_code_text(1000)) != 0; }
+
+/* Each code has a text, and no other number has. */
 static void texts(void) {
     uint32_t code;
-    for (code = 0; code <= CUBEJOBS_DISPATCH_BUSY; code++)
-        expect(code == 30 || strcmp(cubejobs_code_text(code), cubejobs_code_text(1000)), "a code without a text");
+    for (code = 0; code <= CUBEJOBS_LANES_ASLEEP; code++)
+        expect(has_text(code) == (code != 30 && (code < 33 || code > 40)), "another text of a code");
+    expect(has_text(CUBEJOBS_LANES_TIMED_OUT), "a code without a text");
 }
 
 int main(int count, char **words) {
@@ -451,8 +432,9 @@ int main(int count, char **words) {
     codes();
     model(10 * jobs);
     threads();
-    shares();
-    if (!UNDER_HELGRIND) returns(), crowd_of_sharers();
+    rests();
+    crowd_of_sharers();
+    if (!UNDER_HELGRIND) returns();
     printf("%lu jobs of %d producers, each once\n", LANES * jobs, LANES);
     return 0;
 }

@@ -1,7 +1,7 @@
-/* Holds rules of cubejobs_dispatch_wait by scripted orders of threads, as wait_order.c does for blocks: the first look of
- * a worker raises `room` after it has returned, and later looks come one at a time. A worker that is woken by a submit is
- * stopped before each of its atomic instructions too, and another job is submitted meanwhile. With OWNERS it holds the
- * same of cubejobs.hpp in C++20, and with LANES what is about jobs alone of cubejobs_lanes_wait. */
+/* Holds rules of cubejobs_wait.h for lanes by scripted orders of threads, as wait_order.c does for blocks. A thread is
+ * stopped before each of its atomic instructions in turn, while others go on: a worker that lies down, one that is
+ * woken by a submit, and a submit whose lane is full. Without a lost wake each script ends. With OWNERS it holds the
+ * same of cubejobs.hpp in C++20. */
 #include "steps.h"
 
 #include "calls.h"
@@ -10,310 +10,258 @@
 #endif
 
 #define WORKERS 4
-#define BIG 7
+#define CAPACITY 3
 
 #ifdef OWNERS
-static cubejobs::dispatch *shop;
-static cubejobs::shop_lane *lane;
+static cubejobs::lanes *lanes;
+static cubejobs::lane *lane;
 #else
 static uint32_t words[WORKERS];
 static struct cubejobs_parking parking = CUBEJOBS_PARKING_INIT(words, WORKERS);
-#ifdef LANES
-static struct cubejobs_lanes shop;
+static struct cubejobs_lanes lanes;
 static struct cubejobs_lane lane;
-#else
-static struct cubejobs_dispatch shop;
-static struct cubejobs_shop_lane lane;
-#endif
 #endif
 
-struct waiter {
+/* A thread of a script: what it does, and the worker with which it may. */
+struct actor {
 #ifdef OWNERS
-    cubejobs::shop_worker *worker;
-    cubejobs::running job;
-#elif defined(LANES)
-    struct cubejobs_worker worker;
+    cubejobs::worker *worker;
 #else
-    struct cubejobs_shop_worker worker;
+    struct cubejobs_worker worker;
 #endif
-    int steps, tid, has_job;
+    void (*act)(struct actor *own);
+    int is_stepped, tid, has_ended;
     pthread_t id;
 };
-static struct waiter waiters[WORKERS];
+static struct actor actors[WORKERS];
 
 #ifdef OWNERS
-static void submit(uint32_t k) { expect(!lane->submit(0, k).code, "a submit is refused"); }
+static void submit(void) { expect(!lane->submit(0, 0).code, "a submit is refused"); }
 
-static void wait_for_job(struct waiter *own) {
-    own->job = own->worker->next();
-    expect(!own->job.code(), "a wait is refused");
-    set(&own->has_job, 1);
+static void submit_later(struct actor *own) {
+    (void)own;
+    expect(!lane->submit_or_wait(0, 0).code, "a submit is refused");
 }
 
-static void done(struct waiter *one) { one->job.release(); }
-
-static void open_shop(unsigned n) {
-    dim = n;
-    shop = new cubejobs::dispatch(dim, 1, WORKERS, 8);
-    lane = new cubejobs::shop_lane(shop->lane());
-    for (waiter &one : waiters) one.worker = new cubejobs::shop_worker(shop->worker());
+static void submit_to_closed(struct actor *own) {
+    (void)own;
+    expect(lane->submit_or_wait(0, 0).code == CUBEJOBS_LANES_CLOSED, "another answer of a submit to closed lanes");
 }
 
-static void end_shop(void) {
-    shop->close();
-    for (waiter &one : waiters) delete one.worker;
+static void take(struct actor *own) { expect(!own->worker->next().code, "a wait is refused"); }
+
+static void take_none(struct actor *own) {
+    expect(own->worker->next().code == CUBEJOBS_LANES_ENDED, "another answer of a wait for no job");
+}
+
+static void poll(struct actor *own) { expect(!own->worker->try_next().code, "a take is refused"); }
+
+static void close_lanes(struct actor *own) {
+    (void)own;
+    expect(!lanes->close().code, "a close");
+}
+
+static void open_lanes(void) {
+    lanes = new cubejobs::lanes(1, WORKERS, CAPACITY);
+    lane = new cubejobs::lane(lanes->lane());
+    for (actor &one : actors) one.worker = new cubejobs::worker(lanes->worker());
+}
+
+static void end_lanes(void) {
+    for (actor &one : actors) delete one.worker;
     delete lane;
-    expect(shop->finish().empty(), "a job is left");
-    delete shop;
-}
-#elif defined(LANES)
-static void submit(uint32_t k) {
-    expect(!cubejobs_lanes_submit_and_wake(&lane, 0, k, &parking).code, "a submit is refused");
-}
-
-static void wait_for_job(struct waiter *own) {
-    expect(!cubejobs_lanes_wait(&own->worker, 0, &parking).code, "a wait is refused");
-    set(&own->has_job, 1);
-}
-
-static void done(struct waiter *one) { (void)one; }
-
-static void open_shop(unsigned n) {
-    int i;
-    dim = n;
-    expect(!cubejobs_lanes_open(&shop, 1, WORKERS, 8) && !cubejobs_lanes_lane(&shop, &lane), "no lanes");
-    for (i = 0; i < WORKERS; i++) expect(!cubejobs_lanes_worker(&shop, &waiters[i].worker), "no worker");
-}
-
-static void end_shop(void) {
-    int i;
-    expect(!cubejobs_lanes_close_and_wake(&shop, &parking).code, "a close");
-    for (i = 0; i < WORKERS; i++) expect(!cubejobs_lanes_free_worker(&waiters[i].worker), "a worker is out");
-    expect(!cubejobs_lanes_free_lane(&lane), "a lane is out");
-    expect(!cubejobs_lanes_finish(&shop).code && !cubejobs_lanes_free(&shop), "the lanes do not end");
+    lanes->finish();
+    delete lanes;
 }
 #else
-static void submit(uint32_t k) {
-    expect(!cubejobs_dispatch_submit_and_wake(&lane, 0, k, &parking).code, "a submit is refused");
+static void submit(void) {
+    expect(!cubejobs_lanes_submit_and_wake(&lane, 0, 0, &parking).code, "a submit is refused");
 }
 
-static void wait_for_job(struct waiter *own) {
-    expect(!cubejobs_dispatch_wait(&own->worker, &parking).code, "a wait is refused");
-    set(&own->has_job, 1);
+static void submit_later(struct actor *own) {
+    (void)own;
+    expect(!cubejobs_lanes_submit_until(&lane, 0, 0, &parking, 0).code, "a submit is refused");
 }
 
-static void done(struct waiter *one) {
-    expect(!cubejobs_dispatch_done_and_raise(&one->worker, &parking), "a job is not done");
+static void submit_to_closed(struct actor *own) {
+    (void)own;
+    expect(cubejobs_lanes_submit_until(&lane, 0, 0, &parking, 0).code == CUBEJOBS_LANES_CLOSED,
+           "another answer of a submit to closed lanes");
 }
 
-static void open_shop(unsigned n) {
+static void take(struct actor *own) {
+    expect(!cubejobs_lanes_wait(&own->worker, 0, &parking).code, "a wait is refused");
+}
+
+static void take_none(struct actor *own) {
+    expect(cubejobs_lanes_wait(&own->worker, 0, &parking).code == CUBEJOBS_LANES_ENDED,
+           "another answer of a wait for no job");
+}
+
+static void poll(struct actor *own) {
+    expect(!cubejobs_lanes_take_any_and_raise(&own->worker, 0, &parking).code, "a take is refused");
+}
+
+static void close_lanes(struct actor *own) {
+    (void)own;
+    expect(!cubejobs_lanes_close_and_wake(&lanes, &parking).code, "a close");
+}
+
+static void open_lanes(void) {
     int i;
-    dim = n;
-    expect(!cubejobs_dispatch_open(&shop, dim, 1, WORKERS, 8) && !cubejobs_dispatch_lane(&shop, &lane), "no dispatcher");
-    for (i = 0; i < WORKERS; i++) expect(!cubejobs_dispatch_worker(&shop, &waiters[i].worker), "no worker");
+    expect(!cubejobs_lanes_open(&lanes, 1, WORKERS, CAPACITY) && !cubejobs_lanes_lane(&lanes, &lane), "no lanes");
+    for (i = 0; i < WORKERS; i++) expect(!cubejobs_lanes_worker(&lanes, &actors[i].worker), "no worker");
 }
 
-static void end_shop(void) {
+static void end_lanes(void) {
     int i;
-    expect(!cubejobs_dispatch_close_and_wake(&shop, &parking).code, "a close");
-    for (i = 0; i < WORKERS; i++) expect(!cubejobs_dispatch_free_worker(&waiters[i].worker), "a worker is out");
-    expect(!cubejobs_dispatch_free_lane(&lane), "a lane is out");
-    expect(!cubejobs_dispatch_finish(&shop).code && !cubejobs_dispatch_free(&shop), "the dispatcher does not end");
+    for (i = 0; i < WORKERS; i++) expect(!cubejobs_lanes_free_worker(&actors[i].worker), "a worker is out");
+    expect(!cubejobs_lanes_free_lane(&lane) && !cubejobs_lanes_finish(&lanes).code, "the lanes do not end");
+    while (cubejobs_lanes_rest(&lanes).code == CUBEJOBS_LANES_DONE) {}
+    expect(!cubejobs_lanes_free(&lanes), "a job is left");
 }
 #endif
 
-static void *work(void *argument) {
-    struct waiter *own = (struct waiter *)argument;
+static void submits(struct actor *own) {
+    (void)own;
+    submit();
+}
+
+static void *play(void *argument) {
+    struct actor *own = (struct actor *)argument;
     set(&own->tid, (int)syscall(SYS_gettid));
-    if (own->steps) step();
-    wait_for_job(own);
+    if (own->is_stepped) step();
+    own->act(own);
+    set(&own->has_ended, 1);
     is_stepped = 0;
     return 0;
 }
 
-static struct waiter *start(unsigned number, int steps) {
-    struct waiter *one = &waiters[number];
-    one->steps = steps, one->tid = 0, one->has_job = 0;
-    expect(!pthread_create(&one->id, 0, work, one), "no thread");
+static struct actor *start(unsigned number, int is_stepped_thread, void (*act)(struct actor *)) {
+    struct actor *one = &actors[number];
+    one->is_stepped = is_stepped_thread, one->tid = 0, one->has_ended = 0, one->act = act;
+    expect(!pthread_create(&one->id, 0, play, one), "no thread");
     return one;
 }
 
-/* Waits until a thread sleeps, has its job, or was stopped. */
-static void settle(struct waiter *one) {
+/* Waits until a thread sleeps, has done what it does, or was stopped. */
+static void settle(struct actor *one) {
     const struct timespec moment = {0, 200000};
     int times = 0;
-    while (times < 5 && !get(&one->has_job) && !(one->steps && get(&is_stopped))) {
+    while (times < 5 && !get(&one->has_ended) && !(one->is_stepped && get(&is_stopped))) {
         times = sleeps(get(&one->tid)) ? times + 1 : 0;
         nanosleep(&moment, 0);
     }
 }
 
-static void end(struct waiter *one) {
+static void end(struct actor *one) {
     alarm(PATIENCE);
     expect(!pthread_join(one->id, 0), "no end of a thread");
     alarm(0);
 }
 
-#ifndef LANES
-/* Takes a job of this dimension with a worker whose thread this is. */
-static void take(unsigned number, uint32_t k) {
-    submit(k);
-    wait_for_job(&waiters[number]);
-}
-
-/* A job has one half of the machine. A worker that takes a job for one processor is stopped after some steps, while
- * another looks for a quarter. */
-static int granted(int steps) {
-    struct waiter *taker, *waiter;
-    int was_stopped;
-    take(0, BIG), done(&waiters[0]);
-    take(0, BIG - 1);
-    submit(0);
-    arm(steps);
-    taker = start(1, 1);
-    settle(taker);
-    was_stopped = get(&is_stopped);
-    submit(BIG - 2);
-    waiter = start(2, 0);
-    settle(waiter);
-    set(&may_go, 1);
-    end(waiter), end(taker);
-    done(&waiters[0]), done(taker), done(waiter);
-    return was_stopped;
-}
-
-/* A job has one half of the machine, and another a processor of the other half. A worker waits for the whole machine.
- * The processor is released, and the worker is stopped in its next look after some steps, while another looks for a
- * small block. */
-static int refused(int steps) {
-    struct waiter *large, *waiter;
-    int was_stopped;
-    take(0, BIG - 1), take(3, 0);
-    submit(BIG);
-    arm(0);
-    large = start(1, 1);
-    settle(large);
-    arm(steps);
-    done(&waiters[3]);
-    while (!get(&is_stopped) && get(&left) == steps) sched_yield();
-    settle(large);
-    was_stopped = get(&is_stopped);
-    submit(3);
-    waiter = start(2, 0);
-    settle(waiter);
-    set(&may_go, 1);
-    end(waiter);
-    done(waiter), done(&waiters[0]);
-    end(large);
-    done(large);
-    return was_stopped;
-}
-
-/* The same, and the worker is stopped in its first look. The two may change their jobs. */
-static int refused_at_first(int steps) {
-    struct waiter *large, *waiter, *small;
-    int was_stopped;
-    take(0, BIG - 1), take(3, 0);
-    done(&waiters[3]);
-    submit(BIG);
-    arm(steps);
-    large = start(1, 1);
-    settle(large);
-    was_stopped = get(&is_stopped);
-    submit(3);
-    waiter = start(2, 0);
-    settle(waiter);
-    set(&may_go, 1);
-    alarm(PATIENCE);
-    while (!get(&large->has_job) && !get(&waiter->has_job)) sched_yield();
-    small = get(&large->has_job) ? large : waiter;
-    end(small);
-    done(small), done(&waiters[0]);
-    large = small == large ? waiter : large;
-    end(large);
-    done(large);
-    return was_stopped;
-}
-
-/* On four processors a job keeps its worker waiting for two, until others have taken four blocks. Then a worker must
- * wait too, and goes on once the older job has its block, although that one still runs. */
-static void older(void) {
-    struct waiter *old, *waiter;
-    int i;
-    take(0, 1), take(3, 0);
-    submit(1);
-    old = start(1, 0);
-    settle(old);
-    for (i = 0; i < 4; i++) take(2, 0), done(&waiters[2]);
-    submit(0);
-    waiter = start(2, 0);
-    settle(waiter);
-    expect(!get(&old->has_job) && !get(&waiter->has_job), "a block for a later job");
-    done(&waiters[0]);
-    end(old), end(waiter);
-    done(old), done(waiter), done(&waiters[3]);
-}
-
-#endif
-
 /* A worker lies down. A job wakes it, and it is stopped after some steps, while another job and another worker come. */
 static int woken(int steps) {
-    struct waiter *sleeper, *waiter;
+    struct actor *sleeper, *waiter, *producer;
     int was_stopped;
     arm(0);
-    sleeper = start(1, 1);
+    sleeper = start(1, 1, take);
     settle(sleeper);
     arm(steps);
-    submit(0);
-    alarm(PATIENCE);
-    while (!get(&is_stopped) && !get(&sleeper->has_job)) sched_yield();
+    submit();
+    while (!get(&is_stopped) && !get(&sleeper->has_ended)) sched_yield();
     was_stopped = get(&is_stopped);
-    waiter = start(2, 0);
+    waiter = start(2, 0, take);
     settle(waiter);
-    submit(1);
+    producer = start(3, 0, submits);
+    settle(producer);
     set(&may_go, 1);
-    end(sleeper), end(waiter);
-    done(sleeper), done(waiter);
+    end(producer), end(sleeper), end(waiter);
     return was_stopped;
 }
 
 /* A worker looks for a job, finds none, and lies down. It is stopped after some steps, and a job is submitted. */
 static int lies_down(int steps) {
-    struct waiter *sleeper;
+    struct actor *sleeper, *producer;
     int was_stopped;
     arm(steps);
-    sleeper = start(1, 1);
+    sleeper = start(1, 1, take);
     settle(sleeper);
     was_stopped = get(&is_stopped);
-    submit(0);
+    producer = start(3, 0, submits);
+    settle(producer);
     set(&may_go, 1);
-    end(sleeper);
-    done(sleeper);
+    end(producer), end(sleeper);
+    return was_stopped;
+}
+
+static void begin_again(void) {
+    end_lanes();
+    open_lanes();
+}
+
+/* The same, and the lanes are closed. */
+static int is_ended(int steps) {
+    struct actor *sleeper, *closer;
+    int was_stopped;
+    arm(steps);
+    sleeper = start(1, 1, take_none);
+    settle(sleeper);
+    was_stopped = get(&is_stopped);
+    closer = start(3, 0, close_lanes);
+    settle(closer);
+    set(&may_go, 1);
+    end(closer), end(sleeper);
+    begin_again();
+    return was_stopped;
+}
+
+/* A submit finds its lane full, and is stopped after some steps. Meanwhile another thread makes room, or closes. */
+static int is_full(int steps, void (*fills)(struct actor *), void (*frees)(struct actor *)) {
+    struct actor *producer, *other;
+    int was_stopped, i;
+    for (i = 0; i < CAPACITY; i++) submit();
+    arm(steps);
+    producer = start(1, 1, fills);
+    settle(producer);
+    was_stopped = get(&is_stopped);
+    other = start(2, 0, frees);
+    settle(other);
+    set(&may_go, 1);
+    end(producer), end(other);
+    return was_stopped;
+}
+
+static int gets_room(int steps, void (*frees)(struct actor *)) {
+    int was_stopped = is_full(steps, submit_later, frees), i;
+    for (i = 0; i < CAPACITY; i++) poll(&actors[0]);
+    return was_stopped;
+}
+
+static int room_of_a_wait(int steps) { return gets_room(steps, take); }
+
+static int room_of_a_take(int steps) { return gets_room(steps, poll); }
+
+static int is_closed(int steps) {
+    int was_stopped = is_full(steps, submit_to_closed, close_lanes);
+    begin_again();
     return was_stopped;
 }
 
 int main(void) {
-    static int (*const scripts[])(int) = {
-        woken, lies_down,
-#ifndef LANES
-        granted, refused, refused_at_first,
-#endif
-    };
+    static int (*const scripts[])(int) = {woken,          lies_down,      is_ended,
+                                          room_of_a_wait, room_of_a_take, is_closed};
     int all = 0;
     unsigned i;
     expect(traps(), "no signals");
-    open_shop(BIG);
+    open_lanes();
     for (i = 0; i < sizeof scripts / sizeof *scripts; i++) {
         int orders = in_all_orders(scripts[i]);
-        expect(orders > 1, "no thread was stopped");
+        expect(orders > 0, "no thread was stopped");
         all += orders;
     }
-    end_shop();
-#ifndef LANES
-    open_shop(2);
-    for (i = 0; i < 30; i++) older();
-    end_shop();
-#endif
-    printf("ffi: %d scripted orders of workers, and no wake was lost\n", all);
+    close_lanes(0);
+    end_lanes();
+    printf("ffi: %d scripted orders of threads with lanes, and no wake was lost\n", all);
     return 0;
 }

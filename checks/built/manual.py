@@ -15,16 +15,19 @@ from checks.source import version
 LIBRARIES = {
     "cubejobs_fit": ("cubejobs_fit.h", "exact first fit of aligned blocks"),
     "cubejobs_plan": ("cubejobs_plan.h", "which waiting job starts next, and in which block"),
+    "cubejobs_sched": ("cubejobs_sched.h", "scheduler of jobs for threads"),
     "cubejobs_regions": ("cubejobs_regions.h", "lock-free allocator of aligned blocks"),
-    "cubejobs_dispatch": ("cubejobs_dispatch.h", "job lanes, and a dispatcher of jobs with blocks"),
+    "cubejobs_lanes": ("cubejobs_lanes.h", "bounded queues of jobs, without locks"),
     "cubejobs_rounds": ("cubejobs_rounds.h", "the messages of collectives"),
-    "cubejobs_wait": ("cubejobs_wait.h", "threads that sleep until there is a block or a job"),
+    "cubejobs_wait": ("cubejobs_wait.h", "threads that sleep until there is a block, a job, or room for a job"),
 }
 COMMENT = re.compile(r"/\*(.*?)\*/", re.S)
 # A comment, and after it the declarations up to the next blank line.
 ENTRY = re.compile(r"^/\*(?P<says>(?:(?!\*/).)*)\*/\n(?:#\w[^\n]*\n)*(?P<code>(?:(?!/\*|#)[^\n]+\n)+)", re.S | re.M)
 # What the headers keep for themselves: the calls that sanitizers see, and the parts of inline calls.
 INNER = re.compile(r"_(?:seen|acquired|node|unpark_all|head_of|rooms_of|count_of|place|set|no_memory)$")
+# Headers of which a page shows what programs call alone: the functions whose comments list codes, and these.
+WITHOUT_CODES = {"cubejobs_sched": ["cubejobs_sched_now"]}
 FUNCTION = re.compile(r"^(?!typedef|\s)[\w *]*?\b(cubejobs_\w+)\((?:[^;{]*)\)(?=;| \{)", re.M | re.S)
 
 
@@ -67,11 +70,15 @@ def declarations(text):
             yield [it[1] for it in names], list(map(wrapped, shown)), plain(found["says"])
 
 
+def is_shown(library, names, says):
+    return library not in WITHOUT_CODES or "Codes:" in says or names == WITHOUT_CODES[library]
+
+
 def page(library):
     header, about = LIBRARIES[library]
     text = read("include", header)
     top = plain(COMMENT.search(text)[1])
-    found = [*declarations(text)]
+    found = [it for it in declarations(text) if is_shown(library, it[0], it[2])]
     must(len(found) > 2, f"{header} has {len(found)} declarations")
     links = "" if library == "cubejobs_wait" else f"\n.PP\nLink with \\fI\\-l{escaped(library)}\\fR."
     functions = "\n".join(f".SS {escaped(', '.join(names))}\n{verbatim(chr(10).join(code))}\n{paragraphs(says)}"
@@ -90,9 +97,12 @@ def page(library):
 
 
 def left_out(library):
-    """Returns the functions of a header that its page does not show."""
-    text = COMMENT.sub("", read("include", LIBRARIES[library][0]))
-    names = {it[1] for it in FUNCTION.finditer(text) if not INNER.search(it[1])}
+    """Returns the functions of a header that its page does not show, and should."""
+    text = read("include", LIBRARIES[library][0])
+    names = {it[1] for it in FUNCTION.finditer(COMMENT.sub("", text)) if not INNER.search(it[1])}
+    if library in WITHOUT_CODES:
+        shown = [names[0] for names, _, says in declarations(text) if "Codes:" in says]
+        names = {*WITHOUT_CODES[library], *shown, *(["a function with codes"] if len(shown) != text.count("Codes:") else [])}
     return sorted(it for it in names if f" {it}(" not in page(library).replace("*", " ").replace("\n    ", " "))
 
 

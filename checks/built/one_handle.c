@@ -2,7 +2,7 @@
 #include <pthread.h>
 
 #ifdef ONE_WORKER
-#include "cubejobs_dispatch.h"
+#include "cubejobs_lanes.h"
 static struct cubejobs_lanes lanes;
 static struct cubejobs_worker worker;
 static int open_all(void) { return cubejobs_lanes_open(&lanes, 1, 1, 4) || cubejobs_lanes_worker(&lanes, &worker); }

@@ -1,6 +1,5 @@
 /* Uses the owners of cubejobs.hpp: what moves, what is released and when, halves, errors, and the machines that end
- * before their blocks. Of lanes and of a dispatcher: which handles come back and when, jobs that are left, and in C++20
- * workers that sleep. */
+ * before their blocks. Of lanes: which handles come back and when, jobs that are left, and in C++20 workers that sleep. */
 #include "cubejobs.hpp"
 
 #include <atomic>
@@ -24,10 +23,8 @@ template <class T> constexpr bool only_moves() {
 static_assert(only_moves<block>() && only_moves<machine>(), "an owner of regions is copied");
 static_assert(only_moves<first_fit>() && only_moves<first_fit::block>(), "an owner of first fit is copied");
 static_assert(only_moves<cubejobs::planner>(), "a planner is copied");
-static_assert(only_moves<cubejobs::lane>() && only_moves<cubejobs::shared_lane>(), "a lane is copied");
-static_assert(only_moves<cubejobs::worker>() && only_moves<cubejobs::lanes>(), "an owner of lanes is copied");
-static_assert(only_moves<cubejobs::shop_lane>() && only_moves<cubejobs::shop_worker>(), "a handle is copied");
-static_assert(only_moves<cubejobs::dispatch>() && only_moves<cubejobs::running>(), "an owner of jobs is copied");
+static_assert(only_moves<cubejobs::lane>() && only_moves<cubejobs::worker>(), "a handle of lanes is copied");
+static_assert(only_moves<cubejobs::lanes>(), "an owner of lanes is copied");
 
 static void expect(bool holds, const char *what) {
     if (!holds) std::fprintf(stderr, "owners_calls.cpp: %s\n", what), std::exit(1);
@@ -222,15 +219,22 @@ static void moved() {
                one.first_apart(0, 0, 0).code == CUBEJOBS_FIT_BAD_SIZE && one.occupancy().code == CUBEJOBS_FIT_BAD_SIZE &&
                one.block_with(0).code == CUBEJOBS_FIT_BAD_SIZE && !one.is_free(0, 0) && !one.free_blocks(0), "questions");
     cubejobs::lanes lanes(2, 1, 4), kept = std::move(lanes);
-    expect(lanes.close().code == CUBEJOBS_DISPATCH_NOT_OPEN && lanes.code() == CUBEJOBS_DISPATCH_NOT_OPEN, "lanes");
-    expect_error(CUBEJOBS_DISPATCH_NOT_OPEN, [&] { lanes.lane(); }, "a lane of moved lanes");
-    expect_error(CUBEJOBS_DISPATCH_NOT_OPEN, [&] { lanes.finish(); }, "a finish of moved lanes");
+    expect(lanes.close().code == CUBEJOBS_LANES_NOT_OPEN && lanes.code() == CUBEJOBS_LANES_NOT_OPEN, "lanes");
+    expect_error(CUBEJOBS_LANES_NOT_OPEN, [&] { lanes.lane(); }, "a lane of moved lanes");
+    expect_error(CUBEJOBS_LANES_NOT_OPEN, [&] { lanes.finish(); }, "a finish of moved lanes");
     cubejobs::lane lane = kept.lane(), sent = std::move(lane);
     cubejobs::worker worker = kept.worker(), same = std::move(worker);
     expect(!lane && sent && !worker && same, "handles that were moved");
-    expect(lane.submit(1, 0).code == CUBEJOBS_DISPATCH_NOT_OPEN, "a submit to a moved lane");
-    expect(worker.try_next().code == CUBEJOBS_DISPATCH_NOT_OPEN, "a take by a moved worker");
-    expect_error(CUBEJOBS_DISPATCH_NOT_OPEN, [&] { cubejobs::shared_lane none(std::move(lane)); }, "a shared lane");
+    expect(lane.submit(1, 0).code == CUBEJOBS_LANES_NOT_OPEN, "a submit to a moved lane");
+    expect(lane.submit_or_wait(1, 0).code == CUBEJOBS_LANES_NOT_OPEN, "a wait for room of a moved lane");
+    expect(worker.try_next().code == CUBEJOBS_LANES_NOT_OPEN, "a take by a moved worker");
+#ifdef CUBEJOBS_SLEEPS
+    expect(worker.next().code == CUBEJOBS_LANES_NOT_OPEN, "a wait by a moved worker");
+#endif
+    lanes = std::move(kept);
+    cubejobs::lanes &itself = lanes;
+    lanes = std::move(itself);
+    expect(kept.code() == CUBEJOBS_LANES_NOT_OPEN && !sent.submit(1, 0).code, "lanes that moved are open");
 }
 
 /* Waits 10,000 times by 16 threads, each until a random deadline of at most 2 ms, one that has passed, or none. */
@@ -297,31 +301,37 @@ static void waits() {
 }
 
 static void lanes_of_jobs() {
-    expect_error(CUBEJOBS_DISPATCH_BAD_SIZES, [] { cubejobs::lanes none(0, 1, 1); }, "no lanes");
+    expect_error(CUBEJOBS_LANES_BAD_SIZES, [] { cubejobs::lanes none(0, 1, 1); }, "no lanes");
     cubejobs::lanes mine(2, 1, 2);
     cubejobs::lane one = mine.lane();
     cubejobs::worker worker = mine.worker();
-    expect_error(CUBEJOBS_DISPATCH_NONE_LEFT, [&] { mine.worker(); }, "a second worker");
-    expect(worker.try_next().code == CUBEJOBS_DISPATCH_EMPTY && worker.try_next(2).code == CUBEJOBS_DISPATCH_BAD_LANE, "no job");
+    expect_error(CUBEJOBS_LANES_NONE_LEFT, [&] { mine.worker(); }, "a second worker");
+    expect(worker.try_next().code == CUBEJOBS_LANES_EMPTY && worker.try_next(2).code == CUBEJOBS_LANES_BAD_LANE, "no job");
     expect(one.submit(7, 1).code == 0 && one.submit(8, 2).seq == 1, "a submit");
-    expect(one.submit(9, 3).code == CUBEJOBS_DISPATCH_FULL, "a full lane");
+    expect(one.submit(9, 3).code == CUBEJOBS_LANES_FULL, "a full lane");
     expect(worker.try_next().payload == 7 && worker.try_next(1).dim == 2, "a take");
+    const auto brief = std::chrono::milliseconds(2);
+    expect(one.submit_for(9, 3, -brief).seq == 2 && one.submit_for(10, 3, brief).seq == 3, "submits with room");
+    expect(one.submit_for(11, 3, brief).code == CUBEJOBS_LANES_TIMED_OUT, "a submit without room");
+    const auto come = cubejobs::event::clock::now();
+    expect(one.submit_until(11, 3, come).code == CUBEJOBS_LANES_TIMED_OUT, "a time that has come");
+    expect(worker.try_next().payload == 9 && worker.try_next().payload == 10, "the jobs that were accepted");
     {
-        cubejobs::lane old = std::move(one);
-        cubejobs::shared_lane shared(mine.lane()), other = shared.share();
-        expect(shared.submit(1, 0).seq == 0 && other.submit(2, 0).seq == 1, "a shared lane");
-        expect_error(CUBEJOBS_DISPATCH_NONE_LEFT, [&] { mine.lane(); }, "a third lane");
-        shared = std::move(other);
-        expect(shared.submit(3, 0).code == CUBEJOBS_DISPATCH_FULL, "a shared lane that moved");
+        cubejobs::lane old = std::move(one), other = mine.lane();
+        expect(other.submit(1, 0).seq == 0 && other.submit_or_wait(2, 0).seq == 1, "another lane");
+        expect_error(CUBEJOBS_LANES_NONE_LEFT, [&] { mine.lane(); }, "a third lane");
+        old = std::move(other);
+        expect(old.submit(3, 0).code == CUBEJOBS_LANES_FULL && !other, "a lane that moved");
     }
     one = mine.lane();
-    expect(one.submit(10, 4).seq == 2, "a lane comes back at its owner's end");
-    expect(mine.close().accepted == 5 && mine.close().code == CUBEJOBS_DISPATCH_CLOSED, "a close");
-    expect(one.submit(11, 0).code == CUBEJOBS_DISPATCH_CLOSED, "a closed lane");
-    expect_error(CUBEJOBS_DISPATCH_LANE_OUT, [&] { mine.finish(); }, "an end with a lane out");
+    expect(one.submit(12, 4).seq == 4, "a lane comes back at its owner's end");
+    expect(mine.close().accepted == 7 && mine.close().code == CUBEJOBS_LANES_CLOSED, "a close");
+    expect(one.submit(13, 0).code == CUBEJOBS_LANES_CLOSED, "a closed lane");
+    expect(one.submit_or_wait(13, 0).code == CUBEJOBS_LANES_CLOSED, "a wait for room in a closed lane");
+    expect_error(CUBEJOBS_LANES_LANE_OUT, [&] { mine.finish(); }, "an end with a lane out");
     cubejobs::lane(std::move(one));
-    expect_error(CUBEJOBS_DISPATCH_WORKER_OUT, [&] { mine.finish(); }, "an end with a worker out");
-    expect(worker.try_next().payload == 10, "a job after the close");
+    expect_error(CUBEJOBS_LANES_WORKER_OUT, [&] { mine.finish(); }, "an end with a worker out");
+    expect(worker.try_next().payload == 12, "a job after the close");
     cubejobs::worker(std::move(worker));
     std::vector<cubejobs_job_answer> left = mine.finish();
     expect(left.size() == 2 && left[0].payload == 1 && left[1].payload == 2 && left[1].lane == 1, "the jobs that are left");
@@ -329,56 +339,41 @@ static void lanes_of_jobs() {
     expect(mine.lane().submit(1, 0).code == 0, "lanes that moved");
 }
 
-static void jobs_with_blocks() {
-    expect_error(CUBEJOBS_DISPATCH_BAD_DIMENSION, [] { cubejobs::dispatch none(21, 1, 1, 1); }, "a large machine");
-    std::vector<cubejobs::shop_lane> kept;
-    cubejobs::running last;
-    expect(!last && last.code() == CUBEJOBS_DISPATCH_NOTHING_RUN, "no job");
-    {
-        cubejobs::dispatch mine(2, 1, 2, 4);
-        kept.push_back(mine.lane());
-        cubejobs::shop_worker one = mine.worker(), two = mine.worker();
-        expect(kept[0].submit(1, 3).code == CUBEJOBS_DISPATCH_BAD_DIMENSION, "a large job");
-        for (std::uint64_t i = 0; i < 3; i++) expect(kept[0].submit(20 + i, 2).seq == i, "a submit");
-        {
-            cubejobs::running job = one.try_next();
-            expect(job && job.payload() == 20 && job.lane() == 0 && job.base() == 0 && job.dim() == 2, "a job");
-            expect(one.try_next().code() == CUBEJOBS_DISPATCH_RUNS_JOB, "a second job");
-            expect(two.try_next().code() == CUBEJOBS_DISPATCH_NO_REGION, "no block");
-            expect(two.give_back().payload == 21, "a job is given back");
-            expect(two.give_back().code == CUBEJOBS_DISPATCH_NOTHING_KEPT, "no job is kept");
-            cubejobs::running moved = std::move(job);
-            expect(!job && two.try_next().code() == CUBEJOBS_DISPATCH_NO_REGION, "a job that moved is not done");
-        }
-        cubejobs::running job = two.try_next();
-        expect(job.payload() == 22 && job.seq() == 2, "a job is done at its owner's end");
-        job.release();
-        job.release();
-        expect(!job && job.code() == CUBEJOBS_DISPATCH_NOTHING_RUN, "a job that is done");
-        expect(kept[0].submit(23, 0).code == 0 && kept[0].submit(24, 0).code == 0, "more jobs");
-        last = one.try_next();
-        expect(last.payload() == 23, "a job whose worker ends");
-    }
-    expect(kept[0].submit(1, 0).code == CUBEJOBS_DISPATCH_CLOSED, "a lane outlives its dispatcher, which is closed");
-    last = cubejobs::running();
-    {
-        cubejobs::dispatch mine(0, 1, 2, 4);
-        cubejobs::shop_lane lane = mine.lane();
-        for (std::uint64_t i = 0; i < 3; i++) lane.submit(i, 0);
-        cubejobs::shop_worker one = mine.worker();
-        cubejobs::running job = one.try_next();
-        expect(mine.worker().try_next().code() == CUBEJOBS_DISPATCH_NO_REGION, "a worker that keeps a job may end");
-        mine.close();
-        cubejobs::shop_lane(std::move(lane));
-        job.release();
-        cubejobs::shop_worker(std::move(one));
-        std::vector<cubejobs_job_answer> left = mine.finish();
-        expect(left.size() == 1 && left[0].payload == 2, "the jobs of a dispatcher that are left");
+/* Submits the numbers from 0 on, and sleeps while the lane is full, until the lanes are closed. */
+static void submit_all(cubejobs::lane lane, std::atomic<unsigned> &accepted) {
+    for (;;) {
+        const std::uint32_t code = accepted % 2 ? lane.submit_or_wait(accepted, 0).code
+                                                : lane.submit_for(accepted, 0, std::chrono::hours::max()).code;
+        if (code == CUBEJOBS_LANES_CLOSED) return;
+        expect(code == CUBEJOBS_LANES_DONE, "a submit that sleeps");
+        accepted++;
     }
 }
 
+/* On a lane of one place a submit sleeps until a job is taken, and until the owner ends. */
+static void rooms() {
+    std::vector<cubejobs::worker> kept;
+    std::vector<std::thread> threads;
+    std::atomic<unsigned> accepted{0};
+    {
+        cubejobs::lanes mine(1, 1, 1);
+        kept.push_back(mine.worker());
+        threads.emplace_back(submit_all, mine.lane(), std::ref(accepted));
+        for (std::uint64_t i = 0; i < 2; i++) {
+            cubejobs_job_answer job = {};
+            while ((job = kept[0].try_next()).code == CUBEJOBS_LANES_EMPTY) std::this_thread::yield();
+            expect(job.code == CUBEJOBS_LANES_DONE && job.payload == i, "a job of a submit that sleeps");
+        }
+        while (accepted < 3) std::this_thread::yield();
+        std::this_thread::sleep_for(std::chrono::milliseconds(20));
+    }
+    threads[0].join();
+    expect(accepted == 3 && kept[0].try_next().payload == 2, "the owner ends while a submit sleeps");
+    expect(kept[0].try_next().code == CUBEJOBS_LANES_ENDED, "a job of closed lanes");
+}
+
 #ifdef CUBEJOBS_SLEEPS
-/* A worker sleeps until a job is submitted, until a block is free, until a stop, and until the owner ends. */
+/* A worker sleeps until a job is submitted, and until the owner ends. */
 static void sleepers() {
     std::atomic<unsigned> step{0};
     std::vector<std::thread> threads;
@@ -387,72 +382,19 @@ static void sleepers() {
         cubejobs::lanes mine(1, 1, 1);
         cubejobs::lane lane = mine.lane();
         threads.emplace_back([&step, worker = mine.worker()]() mutable {
-            expect(worker.next().payload == 5 && worker.next(1).code == CUBEJOBS_DISPATCH_BAD_LANE, "a job of a sleeper");
+            expect(worker.next().payload == 5 && worker.next(1).code == CUBEJOBS_LANES_BAD_LANE, "a job of a sleeper");
             step = 1;
-            expect(worker.next().code == CUBEJOBS_DISPATCH_ENDED, "an end of a sleeper");
+            expect(worker.next().code == CUBEJOBS_LANES_ENDED, "an end of a sleeper");
         });
         std::this_thread::sleep_for(moment);
         expect(step == 0 && lane.submit(5, 0).code == 0, "a sleeper");
         while (step == 0) std::this_thread::yield();
         std::this_thread::sleep_for(moment);
     }
-    cubejobs::dispatch mine(1, 1, 2, 4);
-    cubejobs::shop_lane lane = mine.lane();
-    cubejobs::shop_worker one = mine.worker();
-    expect(lane.submit(6, 1).code == 0, "a submit");
-    cubejobs::running job = one.next();
-    expect(job.payload() == 6, "the first job");
-    threads.emplace_back([&step, worker = mine.worker()]() mutable {
-        expect(worker.next().payload() == 7, "a job of a sleeper, with its block");
-        step = 2;
-        while (step == 2) std::this_thread::yield();
-        cubejobs::running none = worker.next();
-        expect(!none && none.code() == CUBEJOBS_DISPATCH_NO_REGION && worker.give_back().payload == 9, "a stop");
-        expect(worker.next().code() == CUBEJOBS_DISPATCH_ENDED, "an end of a dispatcher");
-    });
-    std::this_thread::sleep_for(moment);
-    lane.submit(7, 0);
-    std::this_thread::sleep_for(moment);
-    expect(step == 1, "a sleeper that waits for a block");
-    job.release();
-    while (step == 1) std::this_thread::yield();
-    lane.submit(8, 1);
-    job = one.next();
-    expect(job.payload() == 8, "the next job");
-    step = 3;
-    lane.submit(9, 0);
-    std::this_thread::sleep_for(moment);
-    mine.stop();
-    mine.close();
     for (std::thread &thread : threads) thread.join();
-}
-
-/* A worker keeps a job that has waited for long, so another one sleeps, until the first one ends. */
-static void older() {
-    std::atomic<bool> has_job{false};
-    cubejobs::dispatch mine(0, 1, 2, 4);
-    cubejobs::shop_lane lane = mine.lane();
-    cubejobs::shop_worker one = mine.worker(), two = mine.worker();
-    for (std::uint64_t i = 0; i < 4; i++) lane.submit(i, 0);
-    cubejobs::running job = one.next();
-    expect(two.try_next().code() == CUBEJOBS_DISPATCH_NO_REGION, "a second job");
-    job.release();
-    job = one.next();
-    expect(job.payload() == 2, "a job that comes before an older one");
-    job.release();
-    expect(one.try_next().code() == CUBEJOBS_DISPATCH_OLDER_JOB, "an older job");
-    std::thread leaves([&has_job, worker = std::move(two)] {
-        std::this_thread::sleep_for(std::chrono::milliseconds(20));
-        expect(!has_job, "a job beside an older one");
-    });
-    job = one.next();
-    has_job = true;
-    expect(job.payload() == 3, "a job after an older one");
-    leaves.join();
 }
 #else
 static void sleepers() {}
-static void older() {}
 #endif
 
 int main() {
@@ -466,8 +408,7 @@ int main() {
     waits();
     many_deadlines();
     lanes_of_jobs();
-    jobs_with_blocks();
+    rooms();
     sleepers();
-    older();
-    std::puts("ffi: owners of C++ release each block, and end each job, once");
+    std::puts("ffi: owners of C++ release each block, and give each handle back, once");
 }

@@ -26,19 +26,20 @@ int main() {
     expect(vast.code() == CUBEJOBS_PLAN_OUT_OF_RANGE && plan.code() == CUBEJOBS_PLAN_DONE, "planners");
     expect(vast.next(0).code == CUBEJOBS_PLAN_NOT_OPEN && vast.counts().code == CUBEJOBS_PLAN_NOT_OPEN, "no planner");
     cubejobs::lanes empty(0, 1, 1), lanes(1, 1, 2);
-    expect(empty.code() == CUBEJOBS_DISPATCH_BAD_SIZES && !empty.lane() && !empty.worker(), "lanes of no size");
+    expect(empty.code() == CUBEJOBS_LANES_BAD_SIZES && !empty.lane() && !empty.worker(), "lanes of no size");
     cubejobs::lane lane = lanes.lane();
     expect(lane && !lanes.lane(), "one lane is out, and there is no other");
-    expect(lane.submit(7, 1).code == CUBEJOBS_DISPATCH_DONE, "a submit");
-    cubejobs::shared_lane shared(std::move(lane)), again = shared.share(), nothing(std::move(lane));
-    expect(shared && again && !nothing && again.submit(8, 1).code == CUBEJOBS_DISPATCH_DONE, "shared lanes");
+    expect(lane.submit(7, 1).code == CUBEJOBS_LANES_DONE, "a submit");
+    cubejobs::lane moved = std::move(lane);
+    expect(moved && !lane && moved.submit_or_wait(8, 1).code == CUBEJOBS_LANES_DONE, "a lane that moved");
+    expect(moved.submit_for(9, 1, std::chrono::seconds(0)).code == CUBEJOBS_LANES_TIMED_OUT, "a full lane");
     std::vector<cubejobs_job_answer> left(3);
-    expect(lanes.finish(left) == CUBEJOBS_DISPATCH_NOT_CLOSED && left.empty(), "a finish of open lanes");
-    expect(lanes.close().accepted == 2 && lanes.finish(left) == CUBEJOBS_DISPATCH_LANE_OUT, "a finish of lanes that are out");
+    expect(lanes.finish(left) == CUBEJOBS_LANES_NOT_CLOSED && left.empty(), "a finish of open lanes");
+    expect(lanes.close().accepted == 2 && lanes.finish(left) == CUBEJOBS_LANES_LANE_OUT, "a finish of lanes that are out");
     {
-        const cubejobs::shared_lane one(std::move(shared)), other(std::move(again));
-        expect(one && other, "handles that end");
+        const cubejobs::lane one(std::move(moved));
+        expect(bool(one), "a handle that ends");
     }
-    expect(lanes.finish(left) == CUBEJOBS_DISPATCH_DONE && left.size() == 2 && left[1].payload == 8, "a finish");
+    expect(lanes.finish(left) == CUBEJOBS_LANES_DONE && left.size() == 2 && left[1].payload == 8, "a finish");
     std::puts("ffi: owners of C++ without exceptions say why they are empty");
 }

@@ -30,7 +30,7 @@ Maintainer: the owner of this copy <root@localhost>
 Depends: libc6 (>= 2.34)
 Section: devel
 Priority: optional
-Description: lock-free allocator of aligned blocks, and dispatcher of jobs
+Description: lock-free allocator of aligned blocks, and scheduler of jobs
  Blocks that are held at the same time never overlap, and each accepted job runs once. Both are proved for every
  interleaving. The package has the program, the libraries for C, C++, Rust and Python, manual pages and examples.
 """

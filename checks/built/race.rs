@@ -1,9 +1,9 @@
 //! Guards plain memory by blocks and by jobs of the erased sources, for a sanitizer that sees races.
-//! `race ROUNDS WHAT` makes at most 16,384 rounds of `blocks`, `lanes` or `dispatch`.
+//! `race ROUNDS WHAT` makes at most 16,384 rounds of `blocks` or of `lanes`.
 //!
 //! Eight threads write the memory of the processors of their blocks. Two producers write the memory of a job before
-//! they submit it, and two workers write it after they take it, by lanes and by a dispatcher with blocks. Threads are
-//! joined by a counter, since the standard library itself is not watched.
+//! they submit it, and two workers write it after they take it. Threads are joined by a counter, since the standard
+//! library itself is not watched.
 #![allow(dead_code)]
 
 extern crate alloc;
@@ -19,7 +19,7 @@ mod source;
 use source::bitmap_tree::HiddenSeat;
 use source::kit::alloc::Global;
 use source::kit::opaque::Opaque;
-use source::{cubejobs_dispatch as jobs, cubejobs_regions as blocks};
+use source::{cubejobs_lanes as jobs, cubejobs_regions as blocks};
 use std::cell::UnsafeCell;
 use std::mem::forget;
 use std::sync::atomic::{AtomicUsize, Ordering::Relaxed, Ordering::SeqCst};
@@ -95,24 +95,18 @@ fn use_blocks(rounds: u64) {
     forget(first);
 }
 
-/// Passes jobs through lanes, or through a dispatcher whose workers also have blocks.
-fn use_jobs(rounds: u64, has_blocks: bool) {
+/// Passes jobs through lanes.
+fn use_jobs(rounds: u64) {
     let mut owner = shut();
     let sizes = jobs::LaneSizes { lanes: 2, workers: 2, capacity: 16 };
-    let opened = match has_blocks {
-        true => jobs::cubejobs_dispatch_open_version(&mut owner, jobs::VERSION, DIM, sizes),
-        false => jobs::cubejobs_lanes_open_version(&mut owner, jobs::VERSION, sizes),
-    };
-    assert_eq!(opened, 0);
+    assert_eq!(jobs::cubejobs_lanes_open_version(&mut owner, jobs::VERSION, sizes), 0);
     let mut threads: Vec<Box<dyn FnOnce() + Send>> = Vec::new();
     for number in 0..2 {
         let (mut lane, mut worker) = (shut(), shut());
-        let deal = if has_blocks { jobs::cubejobs_dispatch_lane } else { jobs::cubejobs_lanes_lane };
-        assert_eq!(deal(&mut owner, &mut lane), 0);
-        let deal = if has_blocks { jobs::cubejobs_dispatch_worker } else { jobs::cubejobs_lanes_worker };
-        assert_eq!(deal(&mut owner, &mut worker), 0);
-        threads.push(Box::new(move || produce(&mut lane, number, rounds, has_blocks)));
-        threads.push(Box::new(move || work(&mut worker, rounds, has_blocks)));
+        assert_eq!(jobs::cubejobs_lanes_lane(&mut owner, &mut lane), 0);
+        assert_eq!(jobs::cubejobs_lanes_worker(&mut owner, &mut worker), 0);
+        threads.push(Box::new(move || produce(&mut lane, number, rounds)));
+        threads.push(Box::new(move || work(&mut worker, rounds)));
     }
     TAKEN.store(0, Relaxed);
     run(threads);
@@ -122,12 +116,11 @@ fn use_jobs(rounds: u64, has_blocks: bool) {
 static TAKEN: AtomicUsize = AtomicUsize::new(0);
 
 /// Submits jobs, each with a place of the memory for itself.
-fn produce(lane: &mut jobs::Handle, number: u64, rounds: u64, has_blocks: bool) {
+fn produce(lane: &mut jobs::Handle, number: u64, rounds: u64) {
     for round in 0..rounds {
         let place = number * rounds + round;
         OF_JOBS.touch(place, 1);
-        let submit = if has_blocks { jobs::cubejobs_dispatch_submit } else { jobs::cubejobs_lanes_submit };
-        while submit(lane, place, (round % 4) as u32).code != 0 {
+        while jobs::cubejobs_lanes_submit(lane, place, 0).code != 0 {
             yield_now();
         }
     }
@@ -135,31 +128,16 @@ fn produce(lane: &mut jobs::Handle, number: u64, rounds: u64, has_blocks: bool) 
 }
 
 /// Takes jobs until all were taken.
-fn work(worker: &mut jobs::Handle, rounds: u64, has_blocks: bool) {
+fn work(worker: &mut jobs::Handle, rounds: u64) {
     while TAKEN.load(Relaxed) < 2 * rounds as usize {
-        let (code, payload) = match has_blocks {
-            true => {
-                let work = jobs::cubejobs_dispatch_next(worker);
-                if work.code == 0 {
-                    OF_PROCESSORS.touch(work.base, 1 << work.dim);
-                }
-                (work.code, work.payload)
-            }
-            false => {
-                let job = jobs::cubejobs_lanes_take_any(worker, 0);
-                (job.code, job.payload)
-            }
-        };
-        if code != 0 {
+        let job = jobs::cubejobs_lanes_take_any(worker, 0);
+        if job.code != 0 {
             yield_now();
             continue;
         }
-        OF_JOBS.touch(payload, 1);
+        OF_JOBS.touch(job.payload, 1);
         // This orders nothing, or it would hide races.
         TAKEN.fetch_add(1, Relaxed);
-        if has_blocks {
-            assert_eq!(jobs::cubejobs_dispatch_done(worker), 0);
-        }
     }
     forget(std::mem::replace(worker, shut()));
 }
@@ -167,8 +145,7 @@ fn work(worker: &mut jobs::Handle, rounds: u64, has_blocks: bool) {
 fn main() {
     let rounds = std::env::args().nth(1).and_then(|word| word.parse().ok()).expect("race ROUNDS");
     match std::env::args().nth(2).as_deref() {
-        Some("lanes") => use_jobs(rounds, false),
-        Some("dispatch") => use_jobs(rounds, true),
+        Some("lanes") => use_jobs(rounds),
         Some("blocks") => use_blocks(rounds),
         word => panic!("{word:?}"),
     }

@@ -23,8 +23,7 @@ MODES = {"one": "1", "three": "3", "all": "0"}
 REFUSED = " OutOfMemory"
 
 # The calls of each run of a program: the call's name, what it gives, what comes back where it is refused (None: it
-# takes no memory), and how many of the calls after it are left out then. What a call gives may depend on how many calls
-# before it were refused.
+# takes no memory), and how many of the calls after it are left out then.
 REST = 99
 ITEMS = [("items", " 4 7 1 8", "", 1), ("Job::new", " 4 7 1 8", " 4 7 1 8", 0)]
 RUNS = {
@@ -36,12 +35,8 @@ RUNS = {
         ("open", " 10", "", 2), ("take_quick", " 0", None, 0), ("close", " 17", None, 0),
         ("open_with_permits", " 3", "", 1), ("close_with_permits", " 17", None, 0),
     ],
-    # A job is submitted to the first of two lanes, and one by a sharer of the second. A machine of dimension 3 has a word.
-    (LANES,): [
-        ("Lanes::open", " 2", "", 3), ("deal_worker", " 0", "", 2), ("share", " 0", "", 0),
-        ("into_rest", {0: " 2", 1: " 1"}, None, 0), ("room", " 0", "", 3), ("RegionShop::open", " 3", "", 2),
-        ("RegionShop::deal_worker", " 0", "", 1), ("finish", " 1", None, 0),
-    ],
+    # A job is submitted to the first of two lanes.
+    (LANES,): [("Lanes::open", " 2", "", 2), ("deal_worker", " 0", "", 1), ("into_rest", " 1", None, 0)],
 }
 
 
@@ -87,8 +82,7 @@ def must_be(calls, lines):
             must(line in wanted, f"{line!r} where {name} is refused")
             refused, left_out = refused + 1, skips
         else:
-            wanted = gives[refused] if isinstance(gives, dict) else gives
-            must(line == name + wanted, f"{line!r} where {name} is not refused")
+            must(line == name + gives, f"{line!r} where {name} is not refused")
             given += back is not None
     line, _ = next(lines, (None, None))
     must(line == str(given), f"{line!r} at the end, where {given} calls had memory")

@@ -30,8 +30,8 @@ SHARED = [f"lib{name}.so" for name in archive.LIBRARIES]
 FILES = {"cubejobs": "crates/jobs_cli/out/jobs_cli", **{name: f"out/{name}" for name in LIBRARIES + SHARED}}
 NEWEST_GLIBC = (2, 34)
 DIFFERS = "differs from what was built"
-# Where the Rust package has copies of the libraries: a package holds the files that it links.
-RUST = path("rust", "lib")
+# Where the Rust package has copies of the libraries, and links them.
+RUST, COPIES = path("rust", "lib"), LIBRARIES
 # The instructions of each x86-64, as objdump writes them without a suffix of size: those of whole numbers, of the x87,
 # and of SSE and SSE2. What is not among them is taken for one that a processor may lack. What objdump shows as tzcnt is
 # a rep bsf: a processor without tzcnt runs it as bsf. Compilers for any x86-64 write it where both give the same.
@@ -150,12 +150,12 @@ def lacking(folder):
 
 def stale_copies(released=RELEASE, copies=RUST):
     """Yields each library of which the Rust package has another copy, or none."""
-    for name in LIBRARIES:
+    for name in COPIES:
         twin = os.path.join(copies, name)
         if not os.path.exists(twin) or read_bytes(twin) != read_bytes(released, name):
             yield f"{place(twin)} is not the file of release/"
-    for name in sorted({*os.listdir(copies)} - {*LIBRARIES, "aarch64"}):
-        yield f"{place(os.path.join(copies, name))} is no file of release/"
+    for name in sorted({*os.listdir(copies)} - {*COPIES, "aarch64"}):
+        yield f"{place(os.path.join(copies, name))} is no library that the package links"
 
 
 def faults_of_aarch64():
@@ -180,7 +180,7 @@ def renew():
         subprocess.run(["rt", "lib", *FOR_ANY], cwd=path("crates", crate), check=True, stdout=subprocess.DEVNULL)
     archive.main([path("out")])
     Release(RELEASE).take({name: path(file) for name, file in FILES.items()})
-    for name in LIBRARIES:
+    for name in COPIES:
         put(os.path.join(RUST, name), read_bytes(RELEASE, name))
 
 

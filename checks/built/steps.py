@@ -22,13 +22,13 @@ from checks.lib.rows import Row, Skipped, answer, must, run_rows
 
 CALLS, MANY, SECONDS = 40_000, 1_000_000, 1800
 PROGRAM = "checks/built/steps.rs"
-WORDS = ["--edition", "2021", "-Coverflow-checks=on", "-O", *(f'--cfg=feature="{it}"' for it in ("dispatch", "regions", "std"))]
+WORDS = ["--edition", "2021", "-Coverflow-checks=on", "-O", *(f'--cfg=feature="{it}"' for it in ("lanes", "regions", "std"))]
 # The import of the words in the shim, and what stands there instead: each file of the source form that has one.
 IMPORT = "use core::sync::atomic::{AtomicU64, Ordering::SeqCst};"
 COUNTED = "use crate::counting::AtomicU64;\nuse core::sync::atomic::Ordering::SeqCst;"
 SHIMS = ("kit/atomic_table.rs", "kit/counted_slot.rs")
-# What has words of its own, and is not measured: the dispatcher over lanes, and first fit, which orders its writes.
-UNMEASURED = ["cubejobs_fit/open.rs", "fit_tree/writes.rs", "region_shop/ageing.rs"]
+# What has words of its own, and is not measured: first fit, which orders its writes.
+UNMEASURED = ["cubejobs_fit/open.rs", "fit_tree/writes.rs"]
 
 
 class Slip(NamedTuple):

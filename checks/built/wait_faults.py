@@ -17,25 +17,26 @@ LATE = """        is_late = deadline && cubejobs_has_passed(deadline);
         if (!is_late) cubejobs_event_sleep(event, key, deadline);
 """
 EARLY, NEVER = b"a wait ends before its deadline", b"there are both ends"
+SPENT = b"processor time"
 # Of a wait by a mutex and a condition, whose thread is cancelled.
 CANCELLED = "PTHREAD_CANCEL_DISABLE", "PTHREAD_CANCEL_ENABLE"
-# Of the looks of workers.
-KEY = "        *key = cubejobs_event_key(&parking->room);\n"
-FIND = "    found = cubejobs_dispatch_find(worker);\n"
-TURN = "        pthread_mutex_lock(&parking->room.turn);\n"
-NEXT = "    if (in_turn) pthread_mutex_unlock(&parking->room.turn);\n"
-FOUND, NONE = "found.code == CUBEJOBS_DISPATCH_DONE", "cubejobs_has_no_block(found.code)"
-RAISE = "\n        cubejobs_event_raise(&parking->room);\n"
-LOOKED = f"    if ({FOUND} || (!in_turn && {NONE})){RAISE}"
-# Of wakes.
-WAKE = "    while (wake.code == CUBEJOBS_DISPATCH_AGAIN) wake ="
-WOKEN = "    if (wake.code == CUBEJOBS_DISPATCH_DONE) cubejobs_unpark(parking, wake.worker);\n"
+# Of workers and of submits of lanes.
+WAKE = "    while (wake.code == CUBEJOBS_LANES_AGAIN) wake ="
+WOKEN = "    if (wake.code == CUBEJOBS_LANES_DONE) cubejobs_unpark(parking, wake.worker);\n"
+UNPARK = "    cubejobs_unpark(parking, answer.woken);\n"
 ALL = "    cubejobs_unpark_all(parking);\n"
-DONE = "    enum cubejobs_dispatch_code code = cubejobs_dispatch_done(worker);\n"
-STOP = "    cubejobs_event_raise(&parking->room);\n}"
 PARK = "    while (__atomic_load_n(word, __ATOMIC_SEQ_CST) == 0) "
 PARK += "syscall(SYS_futex, word, FUTEX_WAIT_PRIVATE, 0, 0, 0, 0);\n"
 UNUSED = "    (void)parking;\n"
+ROOM = "    cubejobs_event_raise(&parking->room);\n"
+OF_A_WAIT = f"            if (answer.code == CUBEJOBS_LANES_DONE) {ROOM.strip()}\n            return answer;\n"
+OF_A_TAKE = f"    if (answer.code == CUBEJOBS_LANES_DONE) {ROOM.strip()}\n"
+KEY = "        uint32_t key = cubejobs_event_key(&parking->room);\n"
+TRY = "        answer = cubejobs_lanes_submit_and_wake(lane, payload, dim, parking);\n"
+FULL = "        if (answer.code != CUBEJOBS_LANES_FULL) break;\n"
+SLEEP = "is_late = cubejobs_event_wait_until(&parking->room, key, deadline);"
+POLLS = "is_late = deadline && cubejobs_has_passed(deadline), (void)key;"
+FOREVER = f"(void)deadline, {SLEEP}".replace("deadline);", "0);")
 # Of each fault the program that sees it, what is wrong, the old text and the new one, and what the program says.
 OF_THE_HEADER = (
     ("wait_calls", "a release raises nothing", f"{RAISED}    return code;", "    (void)event;\n    return code;", LOST),
@@ -47,40 +48,44 @@ OF_THE_HEADER = (
     ("deadline_calls", "a stop is not looked for", STOPPED, STOPPED.replace("if (!cubejobs_event_is_stopped(event)) ", ""), LOST),
     ("deadline_calls", "a deadline is not looked at", LATE, LATE.replace("cubejobs_has_passed(deadline)", "0"), NEVER),
     ("deadline_calls", "a wait is late at once", LATE, LATE.replace("cubejobs_has_passed(deadline)", "1"), EARLY),
-    ("look_order", "a first look raises nothing", LOOKED, f"    if (in_turn && {FOUND}){RAISE}", LOST),
-    ("look_order", "a look that finds a block raises nothing", LOOKED, f"    if (!in_turn && {NONE}){RAISE}", LOST),
-    ("look_order", "a look that finds none raises nothing", LOOKED, f"    if ({FOUND}){RAISE}", LOST),
-    ("look_order", "a later look raises nothing", LOOKED, f"    if (!in_turn && ({FOUND} || {NONE})){RAISE}", LOST),
-    ("look_order", "a key after the look", f"{KEY}    }}\n{FIND}", f"    }}\n{FIND}    if (in_turn)\n{KEY}", LOST),
-    ("look_order", "workers look at the same time", f"{TURN}{KEY}    }}\n{FIND}{NEXT}", f"{KEY}    }}\n{FIND}", LOST),
+    ("look_order", "a submit reads its key after its try", KEY + TRY + FULL, f"{TRY}{FULL}{KEY}", LOST),
+    ("look_order", "a wait for a job raises no room", OF_A_WAIT, "            return answer;\n", LOST),
+    ("look_order", "a take raises no room", OF_A_TAKE, UNUSED, LOST),
+    ("look_order", "a close raises no room", ALL + ROOM, ALL, LOST),
+    ("room_calls", "a wait for a job raises no room: random programs", OF_A_WAIT, "            return answer;\n", LOST),
+    ("room_calls", "a close raises no room: random programs", ALL + ROOM, ALL, LOST),
+    ("room_calls", "a deadline of a submit is ignored", SLEEP, FOREVER, LOST),
+    ("room_calls", "a submit is late at once", SLEEP, f"{SLEEP[:-1]} || deadline;", EARLY),
+    ("room_calls", "a submit does not sleep", SLEEP, POLLS, SPENT),
     ("sleep_calls", "a submit wakes nobody", WOKEN, UNUSED, LOST),
     ("sleep_calls", "a wake is not tried again", WAKE, "    wake =", LOST),
-    ("sleep_calls", "a worker of lanes wakes no other", "    cubejobs_unpark(parking, answer.woken);\n", "", LOST),
-    ("sleep_calls", "a worker wakes no other", "    cubejobs_unpark(parking, found.woken);\n", "", LOST),
-    ("sleep_calls", "a close wakes nobody", ALL, UNUSED, LOST),
-    ("sleep_calls", "a job that is done raises nothing", DONE, f"{DONE}    if (parking) return code;\n", LOST),
-    ("sleep_calls", "a stop raises nothing", STOP, "}", LOST),
+    ("sleep_calls", "a worker wakes no other", UNPARK, "", LOST),
+    ("look_order", "a close wakes nobody", ALL, "", LOST),
     ("sleep_calls", "a park forgets a wake", PARK, f"    __atomic_store_n(word, 0, __ATOMIC_SEQ_CST);\n{PARK}", LOST),
-    ("sleep_calls", "a worker without a job spins", PARK, "    sched_yield();\n", b"take processor time"),
+    ("sleep_calls", "a worker without a job spins", PARK, "    sched_yield();\n", SPENT),
 )
-# The same of `next` in cubejobs.hpp, which look_order.c sees with OWNERS.
-RAISES = "        if (got.code == CUBEJOBS_DISPATCH_DONE || (has_no_block && !in_turn)) all.raise();\n"
-LOCKS, KEYS = "        if (in_turn) {\n            turn.lock();\n", "            key = all.key();\n        }\n"
-FINDS = "        const auto got = cubejobs_dispatch_find(&mine->at);\n"
-UNLOCKS = "        if (in_turn) turn.unlock();\n"
-SUBMITS = "        if (answer.code == CUBEJOBS_DISPATCH_DONE) mine->all->wake(&mine->at);\n"
-RELEASES = "        cubejobs_dispatch_done(&worker.at);\n        worker.all->raise();\n"
+# The same of cubejobs.hpp, which look_order.c and room_calls.c see with OWNERS.
+WAKES = "        if (answer.code == CUBEJOBS_LANES_DONE) mine->all->wake(&mine->at);\n"
+OTHERS = "            mine->all->unpark(answer.woken);\n"
+OF_NEXT = "            if (answer.code == CUBEJOBS_LANES_DONE) mine->all->room.raise();\n"
+OF_TRY_NEXT = "        if (answer.code == CUBEJOBS_LANES_DONE) mine->all->room.raise();\n        return answer;\n"
+OF_CLOSE = "        all->room.raise();\n"
+KEYS, TRIES = "            const std::uint32_t key = mine->all->room.key();\n", "            answer = submit(payload, dim);\n"
+ENDS = "            if (answer.code != CUBEJOBS_LANES_FULL) break;\n"
+SLEEPS = "is_late = mine->all->room.wait(key, deadline);"
 OF_OWNERS = (
-    ("a first look", RAISES, "        if (got.code == CUBEJOBS_DISPATCH_DONE && in_turn) all.raise();\n"),
-    ("a look that finds a block", RAISES, "        if (has_no_block && !in_turn) all.raise();\n"),
-    ("a look that finds none", RAISES, "        if (got.code == CUBEJOBS_DISPATCH_DONE) all.raise();\n"),
-    ("a later look", RAISES, RAISES.replace("if (", "if (!in_turn && (").replace("&& !in_turn))", ")))")),
-    ("a turn", f"{LOCKS}{KEYS}{FINDS}{UNLOCKS}", f"        if (in_turn) key = all.key();\n{FINDS}"),
-    ("a key", f"{LOCKS}{KEYS}{FINDS}", f"{LOCKS}        }}\n{FINDS}        if (in_turn) key = all.key();\n"),
-    ("a wake", SUBMITS, ""),
-    ("a release", RELEASES, "        cubejobs_dispatch_done(&worker.at);\n"),
+    ("look_order", "a submit wakes nobody", WAKES, "", LOST),
+    ("look_order", "a worker wakes no other", OTHERS, "", LOST),
+    ("look_order", "a close wakes nobody", "        all->unpark_all();\n", "", LOST),
+    ("look_order", "a submit reads its key after its try", KEYS + TRIES + ENDS, TRIES + ENDS + KEYS, LOST),
+    ("look_order", "next raises no room", OF_NEXT, "", LOST),
+    ("look_order", "try_next raises no room", OF_TRY_NEXT, "        return answer;\n", LOST),
+    ("look_order", "a close raises no room", OF_CLOSE, "", LOST),
+    ("room_calls", "next raises no room: random programs", OF_NEXT, "", LOST),
+    ("room_calls", "a deadline is ignored", SLEEPS, f"(void)deadline, {SLEEPS}".replace("deadline);", "nullptr);"), LOST),
+    ("room_calls", "a submit is late at once", SLEEPS, f"{SLEEPS[:-1]} || deadline;", EARLY),
 )
-WRAPPED = ",".join(f"--wrap=cubejobs_dispatch_{it}" for it in ("wake", "find", "awake"))
+WRAPPED = ",".join(f"--wrap=cubejobs_lanes_{it}" for it in ("wake", "find", "awake"))
 
 
 def shim(number):
@@ -93,6 +98,5 @@ OF_A_LIBRARY = (
     ("a wake names nobody", LOST),
     ("a find names nobody", LOST),
     ("a job is lost", LOST),
-    ("each block is the first", b"two owners"),
-    ("a worker that parks has its token", b"take processor time"),
+    ("a worker that parks has its token", SPENT),
 )

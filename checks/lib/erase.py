@@ -11,7 +11,7 @@ named here:
 - `let alloc = Global;` in a function for C, to which C passes no allocator,
 - `ManuallyDrop::new(x)` for `unsafe { ManuallyDrop::new_unchecked(x) }`,
 - two nested `if` for an `if let` with `&&`, which older compilers do not know,
-- the feature of a module of GATED,
+- the condition of a module of GATED,
 - the texts of MENDED, each for one text of a source, which must still be there, and
 - the functions of `rust/c`, each a call of the erased function for C of its name.
 
@@ -27,9 +27,9 @@ from checks.lib.repository import files_below, read
 # The erased crates, each after those that it uses. They are modules of `crate::source`.
 CRATES = (
     "release_version", "cube_shape", "fit_tree", "cubejobs_fit", "collectives", "rank_steps", "cubejobs_rounds", "bitmap_tree",
-    "bitmap_occupancy", "cubejobs_regions", "ghost_log", "wake_pool", "wake_calls", "job_lanes", "kept_places", "region_shop",
-    "shop_owner", "cubejobs_dispatch", "sched_law", "block_trees", "wait_queue", "sched_blocks", "sched_jobs", "sched_core",
-    "sched_request", "cubejobs_plan")
+    "bitmap_occupancy", "cubejobs_regions", "wake_pool", "wake_calls", "job_lanes", "kept_places", "cubejobs_lanes",
+    "sched_law", "block_trees", "wait_queue", "sched_blocks", "sched_jobs", "sched_core", "sched_request", "cubejobs_plan",
+    "sched_pool", "sched_board", "sched_threads", "cubejobs_sched")
 # The crates of the tree of status words, and the collectives as a whole. Only the check `steps` erases them, without the
 # pure machine, the text and the flags of a word.
 TREE = ("status_word", "cube_core", "tree_steps", "cube_tree", "collectives")
@@ -52,15 +52,16 @@ KEPT, DROPPED = ("cold", "derive", "doc", "inline", "must_use", "repr"), ("error
 # What stays in no list of `derive`: Rust can drop each value, and an error has no text here.
 NOT_DERIVED = ("Drop", "Error")
 # Modules that no other erased one uses.
-UNUSED = (*(f"collectives/{it}" for it in ("collective", "monoid", "operations", "padding", "rounds")), "sched_law/law")
-# Modules of a crate that only this feature of the package needs.
-GATED = {"fit_tree/fit": "plan"}
+UNUSED = (*(f"collectives/{it}" for it in ("collective", "monoid", "operations", "padding", "rounds")), "sched_law/law",
+          "sched_threads/law")
+# Modules of a crate that only some features of the package need, with the condition.
+GATED = {"fit_tree/fit": 'any(feature = "plan", feature = "sched")'}
 # Functions of the toolchain that only take a value apart. `abandon` and the like are found in the sources.
 ENDS = {"drop", "destroy_empty", "into_inner"}
 # Files with raw pointers, and the module and the type of what each points to. Each has the type below instead, of the shim.
 OPAQUE = {
-    "cubejobs_dispatch/opaque_ptr": ("state", "State"), "cubejobs_regions/opaque_ptr": ("state", "State"),
-    "cubejobs_plan/opaque_ptr": ("planner", "Planner")}
+    "cubejobs_lanes/opaque_ptr": ("state", "State"), "cubejobs_regions/opaque_ptr": ("state", "State"),
+    "cubejobs_plan/opaque_ptr": ("planner", "Planner"), "cubejobs_sched/opaque_ptr": ("state", "State")}
 OPAQUE_TEXT = f"""//! The pointer of a handle to its content on the heap, or to nothing.
 
 use {SOURCE}::CRATE::MODULE::CONTENT;
@@ -68,23 +69,16 @@ use {KIT}::opaque::Opaque;
 
 pub(crate) type OpaquePtr = Opaque<CONTENT>;
 """
-# For a text of a source, another one. A `Drop` in Rust gets its value by reference, and takes the lane out of its
-# place. A handle that is shut is a constant of the Rust package. What is proved of constants is tested here.
+# For a text of a source, another one. A handle that is shut is a constant of the Rust package. What is proved of constants
+# is tested here.
 MENDED = (
     ("bitmap_tree/steps", "pub fn blank() -> HiddenSeat", "pub const fn blank() -> HiddenSeat"),
-    ("cubejobs_dispatch/share", "fn let_go(self) {\n        let Share {\n            common,\n            number,\n"
-     "            place,\n        } = self;\n        if let Some(kept) = place.into_inner() {\n"
-     "            drop(leave(&common.lane_places[number as usize], kept));",
-     "fn let_go(&mut self) {\n        if let Some(kept) = self.place.get_mut().take() {\n"
-     "            drop(leave(&self.common.lane_places[self.number as usize], kept));"),
-    ("cubejobs_dispatch/share", "impl Drop for Share {\n    fn drop(self) {",
-     "impl Drop for Share {\n    fn drop(&mut self) {"),
     ("sched_jobs/slots", "const _: () = prove!(", "const _: () = assert!("),
 )
 # The crates that export functions to C, and the modules of the library for C that do so here.
 LIBRARIES = {
-    "cubejobs_fit": "fit", "cubejobs_rounds": "rounds", "cubejobs_regions": "regions", "cubejobs_dispatch": "dispatch",
-    "cubejobs_plan": "plan"}
+    "cubejobs_fit": "fit", "cubejobs_rounds": "rounds", "cubejobs_regions": "regions", "cubejobs_lanes": "lanes",
+    "cubejobs_plan": "plan", "cubejobs_sched": "sched"}
 EXPORTS = """// Made by checks/lib/erase.py from the functions that crates/CRATE exports. Change those.
 //! The functions of C of `CRATE`, over the erased sources.
 
@@ -469,10 +463,10 @@ class Eraser:
         return at + 1
 
     def gate(self, module, out):
-        """Writes the feature of a module before its declaration, or before an import from it."""
-        feature = GATED.get(f"{self.crate}/{module}")
-        if feature and self.file.endswith("/lib"):
-            out.insert(beginning(out), token(f'#[cfg(feature = "{feature}")]\n', "doc"))
+        """Writes the condition of a module before its declaration, or before an import from it."""
+        condition = GATED.get(f"{self.crate}/{module}")
+        if condition and self.file.endswith("/lib"):
+            out.insert(beginning(out), token(f"#[cfg({condition})]\n", "doc"))
 
     def on_path(self, items, at, out):
         """Gives the first name of a path its name here."""

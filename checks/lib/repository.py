@@ -11,7 +11,7 @@ PARTS = ("src", "specs", "proofs")
 # The crates on which nobody builds: callers, programs, measurements and tests.
 NO_LIBRARIES = (
     "uses", "jobs_cli", "cube_bench", "tests_kit", "tests_bitmap", "bitmap_trial", "tests_files", "tests_tools",
-    "tests_lanes", "tests_region_shop", "lane_bench")
+    "tests_lanes", "lane_bench")
 LIMITS = ("crates/cube_shape/src/limits.rt", "crates/region_bits/src/limits.rt", "crates/job_lanes/src/sizes.rt")
 
 

@@ -35,9 +35,10 @@ QUOTES = {
     "cube_tree": ("uses/src/subcubes.rt", "uses/proofs/subcubes/hold_two/Answers.antt", "uses/src/room.rt"),
     "cubejobs": ("uses/src/whole.rt",),
     "cubejobs_fit": ("../examples/fit.c",),
-    "cubejobs_dispatch": ("../examples/lanes.c",),
+    "cubejobs_lanes": ("../examples/lanes.c",),
     "cubejobs_regions": ("../examples/regions.c",),
     "cubejobs_plan": ("../examples/plan.c",),
+    "cubejobs_sched": ("../examples/sched.c",),
     "cubejobs_rounds": ("../examples/rounds.c",),
     "devices": (
         "jobs_csv/src/writing.rt#pub fn write_rows<",
@@ -45,9 +46,8 @@ QUOTES = {
     ),
     "dispatcher": ("uses/src/counting.rt",),
     "floors": ("uses/src/any_floor.rt",),
-    "shop_owner": ('cubejobs_dispatch/src/work_exports.rt#pub extern "C" fn cubejobs_dispatch_done',),
-    "hidden_box": ("cubejobs_dispatch/src/opaque_ptr.rt#pub fn of",),
-    "kept_places": ("cubejobs_dispatch/src/dealing.rt#fn deal_lane",),
+    "hidden_box": ("cubejobs_lanes/src/opaque_ptr.rt#pub fn of",),
+    "kept_places": ("cubejobs_lanes/src/dealing.rt#fn deal_lane",),
     "job_lanes": ("tests_lanes/src/tests/script.rt#fn three_lanes_and_what_is_left",),
     "job_queue": ("uses/src/line_run/feeding.rt", "uses/src/line_run/draining.rt"),
     "job_types": ("dispatcher/src/runner.rt#impl Runner for Plain",),
@@ -60,12 +60,10 @@ QUOTES = {
     "floor_locked": ("cube_bench/src/dispatch.rt#fn measure_shop",),
     "line_locked": ("cube_bench/src/dispatch.rt#fn measure_shop",),
     "backoff": ("floor_tree/src/floor_tree.rt#fn take",),
-    "region_shop": ("tests_region_shop/src/stage.rt#fn ask",),
     "release_version": ("cubejobs_rounds/src/version.rt",),
     "rank_steps": ('cubejobs_rounds/src/exports.rt#pub extern "C" fn cubejobs_step',),
     "region_bits": ("alloc_bits/src/alloc_bits.rt#pub fn take",),
     "line_ruled": ("uses/src/answering.rt",),
-    "shared_lane": ("tests_lanes/src/tests/sharing.rt#fn two_sharers",),
     "status_word": ("cube_core/src/effect.rt#fn see",),
     "floor_tree": ("uses/src/answering.rt",),
     "tree_steps": ("cube_tree/src/takes.rt#pub fn try_node",),
@@ -82,6 +80,7 @@ QUOTES = {
     "sched_board": ("sched_threads/src/desk.rt#pub fn next",),
     "sched_pool": ("sched_board/src/board.rt#fn start_one",),
     "sched_request": ("cubejobs_plan/src/submitting.rt",),
+    "sched_threads": ("cubejobs_sched/src/jobs.rt#pub(crate) fn submit",),
     "wake_pool": ("wake_calls/src/steps.rt#pub fn rise<",),
     "wake_calls": ("wake_table/src/tests.rt#fn sleeps", "wake_table/src/tests.rt#fn wakes"),
     "wake_table": ("wake_table/src/tests.rt#fn a_sleeper_is_woken_for_a_job",),
@@ -89,8 +88,8 @@ QUOTES = {
 # A library that nobody calls, and why.
 UNCALLED = {
     "job_events": "the program does not call it yet", "sched_law": "its functions are laws, which proofs cite",
-    "sched_team": "its functions are laws, which proofs cite", "sched_threads": "no library stands on it yet",
-    "ghost_history": "it has no code that runs", "ghost_log": "its calls do nothing at run time"}
+    "sched_team": "its functions are laws, which proofs cite", "ghost_history": "it has no code that runs",
+    "ghost_log": "its calls do nothing at run time"}
 OPENING = re.compile(r"\A(//.*\n)+\n?")
 BLOCK = re.compile(r"((?<=```rust\n)|(?<=```antt\n)|(?<=```c\n)).*?(?=```\n)", re.DOTALL)
 NAMED = re.compile(r"`((?:crates|examples)/[^`\s]+)`")

@@ -1,9 +1,9 @@
 """Sees that each sentence that promises something has what carries it.
 
-It reads README.md, docs/C.md, docs/RUST.md, docs/LANES.md, docs/REGIONS.md and the headers of `include`, and finds each
-sentence that says "proved", "never", "each" or "at most". The file `checks/source/claims` lists them by page. An entry is
-the beginning of a sentence, with code and links as they are written, and then, on a line that is set in, what carries it,
-parted by semicolons:
+It reads README.md, docs/C.md, docs/RUST.md, docs/LANES.md, docs/REGIONS.md, docs/SCHEDULER.md and the headers of
+`include`, and finds each sentence that says "proved", "never", "each" or "at most". The file `checks/source/claims` lists
+them by page. An entry is the beginning of a sentence, with code and links as they are written, and then, on a line that is
+set in, what carries it, parted by semicolons:
 
     CRATE: FUNCTION CLAUSE    a clause of a function, which must have it
     CRATE: NAME               a definition, or a type, of a crate
@@ -24,7 +24,7 @@ from checks.lib.rows import blind, print_faults
 from checks.source.prose import END, comments_of, outside_code, parts
 
 ENTRIES = "checks/source/claims"
-PAGES = ("README.md", "docs/C.md", "docs/RUST.md", "docs/LANES.md", "docs/REGIONS.md")
+PAGES = ("README.md", "docs/C.md", "docs/RUST.md", "docs/LANES.md", "docs/REGIONS.md", "docs/SCHEDULER.md")
 PROMISES = re.compile(r"\b(?:proved|proves|never|each|at most)\b", re.I)
 PLAIN = ("a duty", "a description")
 # Where tests are: files whose text or name has the function or the file of a test.

@@ -25,17 +25,18 @@ LIBRARIES = (
     Library("cubejobs_fit.h", "CUBEJOBS_FIT_", "cubejobs_fit_code", "cubejobs_fit"),
     Library("cubejobs_regions.h", "CUBEJOBS_REGIONS_", "cubejobs_regions_code", "cubejobs_regions",
             ("TIMED_OUT", "STOPPED", "STALE")),
-    Library("cubejobs_dispatch.h", "CUBEJOBS_DISPATCH_", "cubejobs_dispatch_code", "cubejobs_dispatch"),
+    Library("cubejobs_lanes.h", "CUBEJOBS_LANES_", "cubejobs_lanes_code", "cubejobs_lanes", ("TIMED_OUT",)),
     Library("cubejobs_plan.h", "CUBEJOBS_PLAN_", "cubejobs_plan_code", "cubejobs_plan"),
     Library("cubejobs_rounds.h", "CUBEJOBS_ROUNDS_", "cubejobs_rounds_code", "cubejobs_rounds"),
+    Library("cubejobs_sched.h", "CUBEJOBS_SCHED_", "cubejobs_sched_code", "cubejobs_sched", ("TIMED_OUT",)),
 )
 TEXTS = "cubejobs_codes.h"
-# Codes of the planner with a name or a number of the dispatcher: it is full itself, and not a lane; and where the
-# dispatcher says that a queue is empty, the planner says of any call that there is no job.
-OTHERS = {"cubejobs_plan.h": ("FULL", "NO_JOB")}
+# Codes of the planner and of the scheduler with a name or a number of the lanes: they are full themselves, and not a lane;
+# and where the lanes say that a queue is empty, they say of any call that there is no job.
+OTHERS = {it: ("FULL", "NO_JOB") for it in ("cubejobs_plan.h", "cubejobs_sched.h")}
 # Where the Rust package has numbers of codes, and the header that they are of.
-IN_RUST = {"fit_ffi.rs": "cubejobs_fit.h", "regions_ffi.rs": "cubejobs_regions.h", "dispatch_ffi.rs": "cubejobs_dispatch.h",
-           "rounds_ffi.rs": "cubejobs_rounds.h", "plan_ffi.rs": "cubejobs_plan.h"}
+IN_RUST = {"fit_ffi.rs": "cubejobs_fit.h", "regions_ffi.rs": "cubejobs_regions.h", "lanes_ffi.rs": "cubejobs_lanes.h",
+           "rounds_ffi.rs": "cubejobs_rounds.h", "plan_ffi.rs": "cubejobs_plan.h", "sched_ffi.rs": "cubejobs_sched.h"}
 # The outcomes of the page that are codes of cubejobs_fit.h.
 IN_PAGE = {"given": "DONE", "freed": "DONE", "nosubcube": "NO_ROOM"}
 CONSTANT = re.compile(r"^pub const ([A-Z_]+): u32 = (\d+);", re.M)

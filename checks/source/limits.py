@@ -5,7 +5,8 @@ each literal that is such a number or a power of interest, or one less or more, 
 10`. A limit whose name an earlier file has too is called by its crate: `job_lanes::MAX_LANES`. Comments do not
 count, nor do tests, whose rows are worked by hand. OTHERS says what else such a number may be; an entry that no literal
 needs fails too, and so does a limit without a sentence. C, Rust, the page and documents cannot name a limit: WRITTEN
-says where they write it out, and each of these numbers must be that of its limit.
+says where they write it out, and each of these numbers must be that of its limit. So does OF_OTHERS of limits of other
+crates, whose numbers it does not look for.
 """
 import re
 
@@ -22,7 +23,7 @@ OTHERS = (
     (r"cli_args/src/command_line\.rt", r"  105 bytes, and 16 for each item", "the bytes of a scan"),
     (r"cli_args/", r'default_value\("16"\)|codes "16"', "the room of a line where no word says it"),
     (r"uses/src/(answering|whole)\.rt", r"capacity: 16", "the room of this caller's line"),
-    (r"cubejobs_(dispatch|plan|regions)/src/codes\.rt", r"[A-Z_]+: u32 = \d+;", "the code of an answer"),
+    (r"cubejobs_(lanes|plan|regions|sched)/src/codes\.rt", r"[A-Z_]+: u32 = \d+;", "the code of an answer"),
     (r"\w+/proofs/", r"search \(.*\) depth 20", "how deep a search goes"),
     (r"cli_commands/src/progress\.rt", r"PAUSE: u64 = 20", "the pause of the line of progress"),
     (r"cube_bench/src/rounds\.rt", r"MAX_DIM: u32 = 20", "the largest job that is measured"),
@@ -30,7 +31,6 @@ OTHERS = (
     (r"cube_bench/src/regions/\w+\.rt", r"next\(\) >> 20", "the low bits of a random number"),
     (r"cube_bench/src/regions/\w+\.rt", r"padding: \[(0|u64); 16\]", "the words of two cache lines"),
     (r"wake_table/src/board\.rt", r"count < 2 \^ 62", "the counts of the lanes of this crate"),
-    (r"region_shop/src/ageing\.rt", r"PATIENCE: u64 = 16", "how often others wait for a job, for each processor"),
     # Limits that have to be written out: when one is changed, its entry here is one that no literal needs.
     (r"cli_args/src/command_line\.rt", r"lane is below 16", "MAX_LANES in the help"),
     (r"jobs_csv/src/wanted\.rt", r"a number below 16", "MAX_LANES in a list of refusals"),
@@ -38,19 +38,19 @@ OTHERS = (
 # Which file writes a limit, in which words, and which limit it is.
 WRITTEN = (
     ("include/cubejobs_plan.h", r"#define CUBEJOBS_PLAN_MAX_DIM (\d+)", "MAX_BITMAP_DIM"),
+    ("include/cubejobs_sched.h", r"#define CUBEJOBS_SCHED_MAX_DIM (\d+)", "MAX_BITMAP_DIM"),
     ("include/cubejobs_fit.h", r"#define CUBEJOBS_FIT_MAX_DIM (\d+)", "MAX_BITMAP_DIM"),
     ("include/cubejobs_fit.h", r"free blocks of the dimensions 0 to (\d+)", "MAX_BITMAP_DIM"),
     ("include/cubejobs_regions.h", r"#define CUBEJOBS_REGIONS_MAX_DIM (\d+)", "MAX_BITMAP_DIM"),
-    ("include/cubejobs_dispatch.h", r"#define CUBEJOBS_LANES_MAX_LANES (\d+)", "job_lanes::MAX_LANES"),
-    ("include/cubejobs_dispatch.h", r"#define CUBEJOBS_LANES_MAX_WORKERS (\d+)", "MAX_WORKERS"),
-    ("include/cubejobs_dispatch.h", r"#define CUBEJOBS_LANES_MAX_CAPACITY (\d+)", "job_lanes::MAX_CAPACITY"),
-    ("include/cubejobs_dispatch.h", r"There are 1 to ([\d,]+) lanes and as many", "job_lanes::MAX_LANES"),
-    ("include/cubejobs_dispatch.h", r"each lane holds 1 to ([\d,]+) jobs", "job_lanes::MAX_CAPACITY"),
-    ("include/cubejobs_dispatch.h", r"a machine of dimension `dim`, at most (\d+)", "MAX_BITMAP_DIM"),
+    ("include/cubejobs_lanes.h", r"#define CUBEJOBS_LANES_MAX_LANES (\d+)", "job_lanes::MAX_LANES"),
+    ("include/cubejobs_lanes.h", r"#define CUBEJOBS_LANES_MAX_WORKERS (\d+)", "MAX_WORKERS"),
+    ("include/cubejobs_lanes.h", r"#define CUBEJOBS_LANES_MAX_CAPACITY (\d+)", "job_lanes::MAX_CAPACITY"),
+    ("include/cubejobs_lanes.h", r"There are 1 to ([\d,]+) lanes and as many", "job_lanes::MAX_LANES"),
+    ("include/cubejobs_lanes.h", r"each lane holds 1 to ([\d,]+) jobs", "job_lanes::MAX_CAPACITY"),
     ("rust/src/fit_ffi.rs", r"const MAX_DIM: u32 = (\d+);", "MAX_BITMAP_DIM"),
-    ("rust/src/dispatch_ffi.rs", r"const MAX_DIM: u32 = (\d+);", "MAX_BITMAP_DIM"),
     ("rust/src/regions_ffi.rs", r"const MAX_DIM: u32 = (\d+);", "MAX_BITMAP_DIM"),
     ("rust/src/regions_ffi.rs", r"const FREE_PLACES: usize = (\d+);", "MAX_BITMAP_DIM + 1"),
+    ("rust/src/sched_ffi.rs", r"const MAX_DIM: u32 = (\d+);", "MAX_BITMAP_DIM"),
     ("view/index.html", r"const MAX_DIM = (\d+);", "MAX_DIM"),
     ("view/index.html", r"const MAX_STATIONS = (\d+);", "MAX_STATIONS"),
     ("mutants/cube_core/unmark_of_ones_own_mark.edit", r"\(u % (\d+)\)", "MAX_STATIONS"),
@@ -59,7 +59,7 @@ WRITTEN = (
     ("README.md", r"has machines of dimension 0 to (\d+)", "MAX_DIM"),
     ("README.md", r"any number of blocks; 2\^(\d+) processors", "MAX_BITMAP_DIM"),
     ("README.md", r"lowest free block, in memory of yours \| one call at a time; 2\^(\d+) processors", "MAX_BITMAP_DIM"),
-    ("README.md", r"A run has (\d+) lanes", "MAX_LANES"),
+    ("README.md", r"A\s+run has (\d+) lanes", "MAX_LANES"),
     ("README.md", r"lanes, 1 to (\d+)\s+dispatchers", "MAX_DISPATCHERS"),
     ("README.md", r"a queue\s+of 1 to ([\d,]+) jobs", "MAX_CAPACITY"),
     ("README.md", r"([\d,]+) lanes and workers; 1 to", "job_lanes::MAX_LANES"),
@@ -74,6 +74,18 @@ WRITTEN = (
     ("docs/RUST.md", r"regions::Machine` \| dimension 0 to (\d+)", "MAX_BITMAP_DIM"),
     ("docs/ALGORITHM.md", r"`n` is at most (\d+)", "MAX_DIM"),
     ("docs/GLOSSARY.md", r"one of at most (\d+) users of the machine", "MAX_STATIONS"),
+)
+# The same of a constant of another file.
+OF_OTHERS = (
+    ("include/cubejobs_plan.h", r"#define CUBEJOBS_PLAN_MAX_JOBS (\d+)", "crates/wait_queue/src/nodes.rt", "MAX_SLOTS"),
+    ("include/cubejobs_plan.h", r"#define CUBEJOBS_PLAN_CLASSES (\d+)", "crates/sched_jobs/src/lines.rt", "CLASSES"),
+    ("include/cubejobs_sched.h", r"#define CUBEJOBS_SCHED_MAX_JOBS (\d+)", "crates/wait_queue/src/nodes.rt", "MAX_SLOTS"),
+    ("include/cubejobs_sched.h", r"#define CUBEJOBS_SCHED_CLASSES (\d+)", "crates/sched_jobs/src/lines.rt", "CLASSES"),
+    ("include/cubejobs_sched.h", r"#define CUBEJOBS_SCHED_MAX_WORKERS (\d+)", "crates/sched_pool/src/workers.rt", "MAX_WORKERS"),
+    ("rust/src/sched_ffi.rs", r"const MAX_JOBS: u32 = ([\d_]+);", "crates/wait_queue/src/nodes.rt", "MAX_SLOTS"),
+    ("rust/src/sched_ffi.rs", r"const CLASSES: u8 = (\d+);", "crates/sched_jobs/src/lines.rt", "CLASSES"),
+    ("rust/src/sched_ffi.rs", r"const MAX_WORKERS: u32 = ([\d_]+);", "crates/sched_pool/src/workers.rt", "MAX_WORKERS"),
+    ("docs/RUST.md", r"2\^24 jobs; ([\d,]+) workers", "crates/sched_pool/src/workers.rt", "MAX_WORKERS"),
 )
 SUFFIX = r"(?:[ui](?:8|16|32|64|128|size))?"
 POWER = rf"(?:(?P<base>[12]){SUFFIX}\s*(?P<sign>\^|<<|\.pow\()\s*)?"
@@ -114,6 +126,15 @@ def miswritten(words):
             yield f"{file}: {found[0]} is not {name}"
 
 
+def miswritten_of_others():
+    for file, pattern, home, name in OF_OTHERS:
+        found = re.findall(pattern, read(file))
+        limit = re.search(rf"^pub const {name}: \w+ = (.*);", read(home), re.M)
+        numbers = [re.sub("[,_]", "", it) for it in found]
+        if not limit or numbers != [str(value(LITERAL.fullmatch(limit[1])))]:
+            yield f"{file}: {pattern!r} is {found}, and {name} of {home} is {limit and limit[1]}"
+
+
 def sources():
     """Yields the lines that count: place, number and text without a comment."""
     for file in crate_files(".rt", ".antt"):
@@ -140,4 +161,4 @@ def unnamed(words):
 def main(_):
     words = named_numbers()
     untold = [f"{home}: no sentence says what {name} is" for home, sentence, name, _ in limits() if not sentence]
-    return print_faults([*untold, *unnamed(words), *miswritten(words)])
+    return print_faults([*untold, *unnamed(words), *miswritten(words), *miswritten_of_others()])

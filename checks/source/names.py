@@ -29,7 +29,7 @@ TABLES = (
 NUMBERS = "zero one two three four five six seven eight nine ten eleven twelve".split()
 # Words of the toolchain, of the system and of other libraries that nothing here uses, and parts of other languages.
 EXCUSED = {
-    "rt": "tidy untested holes RT_JOBS", "Linux": "perf ulimit O_NONBLOCK madvise nice", "MPI": "MPI_Exscan",
+    "rt": "tidy untested holes RT_JOBS", "Linux": "perf ulimit O_NONBLOCK madvise nice pthread_cleanup_push", "MPI": "MPI_Exscan",
 }
 # Folders whose files are made or are no text, and those whose files only give their names: a mutant is wrong code.
 NO_FOLDERS, ONLY_NAMES = (".git", "out", "target", "release", "__pycache__"), ("mutants", "pictures")

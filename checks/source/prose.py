@@ -27,8 +27,8 @@ PAGES = "crates/*/CALLING.md"
 # The guides, with the most words of each: the pages by which a user builds, installs, calls or runs this. A user reads
 # them from end to end, so they stay short. Others explain or list, are read in parts, and have no limit.
 GUIDES = {
-    "README.md": 1200, "docs/GUIDE.md": 1900, "docs/C.md": 2760, "docs/RUST.md": 1320, "docs/INSTALL.md": 230,
-    "docs/SOURCE.md": 860, "docs/MACHINES.md": 900,
+    "README.md": 1200, "docs/GUIDE.md": 1900, "docs/C.md": 2880, "docs/RUST.md": 1500, "docs/INSTALL.md": 230,
+    "docs/SOURCE.md": 860, "docs/MACHINES.md": 900, "docs/SCHEDULER.md": 1350,
 }
 # Words that are not written, and what to say.
 BANNED = {

@@ -18,7 +18,7 @@ SOURCE, VERSIONS, CHANGELOG = "crates/release_version/src/lib.rt", "release/VERS
 VERSION = r"(\d+)\.(\d+)\.(\d+)(-dev)?"
 TEXT, NUMBER = r'(VERSION: &str = ")([^"]*)(")', r"(VERSION_NUMBER: u32 = )(\d+)(;)"
 ERASED = "rust/src/source/release_version/mod.rs"
-HEADERS = ("cubejobs_dispatch.h", "cubejobs_fit.h", "cubejobs_regions.h", "cubejobs_rounds.h")
+HEADERS = ("cubejobs_fit.h", "cubejobs_lanes.h", "cubejobs_regions.h", "cubejobs_rounds.h")
 # Where a version is written: the file, the words around it, and whether it is the number.
 PLACES = (
     (SOURCE, TEXT, False),

@@ -4,9 +4,9 @@
     checks/run python --long               random programs at length, over those of release/
     checks/run python .. --seed N          random programs from this seed on
 
-It runs the examples of the module's page, and small programs on what the module promises of blocks, machines, memory
-and processes. Random programs run beside a model. mypy reads the module and programs of users, where it is installed.
-pip installs the module into a virtual environment and removes it.
+It runs the examples of the module's page, and small programs on what the module promises of blocks, machines, planners,
+schedulers, memory and processes. Random programs run beside a model, or with a table of owners. mypy reads the module
+and programs of users, where it is installed. pip installs the module into a virtual environment and removes it.
 """
 import argparse
 import ast
@@ -22,12 +22,12 @@ from checks.lib.rows import Row, Skipped, answer, must, output, run_rows
 
 HERE, MODULE = path("checks", "built", "python"), path("python")
 DOCTEST = "import cubejobs, doctest; failed, tried = doctest.testmod(cubejobs); print(tried); raise SystemExit(failed)"
-EXAMPLES = ("day.py", "processes.py")
+EXAMPLES = ("day.py", "gang.py", "processes.py")
 SECONDS = 900
 # How many random programs run of each kind, and how many calls each makes: in the gate, and at length.
 GATE, LONG = (2, 50_000), (10, 300_000)
-# How much slower the plain model of a planner is.
-PLAIN = 5
+# How much slower the plain model of a planner is, and the threads of a scheduler.
+PLAIN, SLEEPY = 5, 50
 
 
 def programs(file):
@@ -69,7 +69,7 @@ def rows(module, work, folder):
     yield Row("the examples of its page", module.examples_of_its_page)
     yield from (Row(f"the example {it}", module.example, (it,)) for it in EXAMPLES)
     yield Row("its types", module.has_good_types)
-    for file in ("behaviour.py", "forks.py", "plans.py"):
+    for file in ("behaviour.py", "forks.py", "plans.py", "schedules.py"):
         yield from (Row(it.replace("_", " "), module.runs, (f"{HERE}/{file}", it)) for it in programs(file))
     for method in multiprocessing.get_all_start_methods():
         words = f"{HERE}/forks.py", "workers_have_machines_of_their_own", method
@@ -85,6 +85,9 @@ def random_rows(module, seed, seeds, calls):
     for it in map(str, range(seed, seed + seeds)):
         words = f"{HERE}/plans.py", it, str(calls // PLAIN)
         yield Row(f"random calls of planners, with the seed {it}", module.runs, words)
+    for it in map(str, range(seed, seed + seeds)):
+        words = f"{HERE}/schedules.py", it, str(calls // SLEEPY)
+        yield Row(f"random jobs of schedulers, with the seed {it}", module.runs, words)
 
 
 def main(words):

@@ -1,8 +1,10 @@
 """A program of a user, whose types mypy must find right: one function serves both machines."""
 import copy
+from concurrent.futures import Executor, Future, wait
 from typing import List, Optional, Union
 
-from cubejobs import Block, Counts, FirstFit, Job, Machine, NoRoom, Occupancy, Planner, Region, Regions, State
+from cubejobs import (Block, Counts, FirstFit, Forecast, Job, Machine, NoRoom, Occupancy, Planner, Region, Regions,
+                      Scheduler, SchedulerCounts, SchedulerFuture, State, current_processors)
 
 
 def fill(machine: Machine, dim: int) -> List[Block]:
@@ -38,6 +40,25 @@ def starts(planner: Planner, now: int) -> List[range]:
     return found if len(waiting) == counts.waiting else []
 
 
+def squares(executor: Executor) -> List[float]:
+    return list(executor.map(pow, range(4), [2.0] * 4))
+
+
+def gang(scheduler: Scheduler) -> int:
+    """Runs jobs on processors, and holds some itself."""
+    futures: List[SchedulerFuture[range]] = [scheduler.submit(current_processors, processors=it) for it in (1, 2)]
+    text: "Future[str]" = scheduler.submit(repr, 7, estimate=0.5, job_class=1, timeout=2)
+    with scheduler.allocation(2, timeout=9.5) as processors:
+        held: range = processors
+    found: Optional[Forecast] = None if futures[0].done() else futures[0].forecast()
+    time: Optional[float] = found.time if found else None
+    wait(futures)
+    counts: SchedulerCounts = scheduler.counts()
+    scheduler.occupy(Region(0, 0))
+    scheduler.vacate(Region(0, 0))
+    return len(held) + len(text.result()) + len(futures[1].result()) + counts.running if time is None else 0
+
+
 def main() -> None:
     machines: List[Machine] = [Regions(4), FirstFit(4)]
     for machine in machines:
@@ -57,6 +78,8 @@ def main() -> None:
         ticket: int = planner.submit("a job", processors=3, estimate=5)
         end: Optional[int] = planner.forecast(ticket).time
         print(starts(planner, 2), end, planner.finish(ticket))
+    with Scheduler(3, workers=4, jobs=9) as scheduler:
+        print(squares(scheduler), gang(scheduler), scheduler.dim)
 
 
 if __name__ == "__main__":

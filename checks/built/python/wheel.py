@@ -75,7 +75,8 @@ class Wheel:
         self.must_pip("install", of)
         home, *loaded = output([self.python, "-c", USE], env=self.env, cwd="/").splitlines()[0].split()
         must(home.startswith(self.work) and "site-packages" in home, f"the module is in {home}")
-        must(loaded == ["libcubejobs_fit.so", "libcubejobs_plan.so", "libcubejobs_regions.so"], f"the module has loaded {loaded}")
+        wanted = [f"libcubejobs_{it}.so" for it in ("fit", "plan", "regions", "sched")]
+        must(loaded == wanted, f"the module has loaded {loaded}")
         must(f"Version: {self.version}\n" in self.must_pip("show", "cubejobs"), "pip shows another version")
         used = output([self.python, "-c", USE], env=self.env, cwd="/").splitlines()[1]
         must(used == f"{version.of_sources()} Block(base=0, dim=2) Block(base=0, dim=2) 1", used)
