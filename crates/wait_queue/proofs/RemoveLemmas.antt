@@ -6,7 +6,7 @@ use Rattle.wait_queue.specs.declared.nodes.Fork.{Fork as ForkData}
 use Rattle.wait_queue.specs.declared.nodes.QueueNode.{QueueNode as NodeData}
 use Rattle.wait_queue.specs.Nodes.{estimate_of, key_of}
 use Rattle.wait_queue.specs.Lists.{Has, IsRising}
-use Rattle.wait_queue.specs.Inner.Tree.{Tree, leaf, branch, Holds, IsAt, first_of, least_of, size_of, slots_of}
+use Rattle.wait_queue.specs.Inner.Tree.{Tree, leaf, branch, Holds, IsAt, first_of, fork_of, least_of, size_of, slots_of}
 use Rattle.wait_queue.specs.Inner.Changes.{CanRemove, HasLess, HasRemoved, IsPair, KeepsItems, without}
 use Rattle.wait_queue.proofs.ListLemmas.{has_left, has_right, has_cases}
 use Rattle.wait_queue.proofs.TreeLemmas.{BranchAt, apart, at_kept, first_is_least, has_first, leaf_at, least_kept, size_is_length, slots_inside, slots_rise}
@@ -189,6 +189,7 @@ module _ (old : List NodeData) (link slot : ℕ) (tree : Tree) (found : ForkData
         found = at.to_right;
         left_out = left_out_left [] (on_the_left less) (sym (ap (λ t. without slot (slots_of t)) own ∙ without_own slot));
         rest = keeps_none old (slots_of tree);
+        head = refl;
       }
 
   pub remove_right_leaf : key_of old (link / 2) ≤ key_of old slot → found.right ≡ 2 * slot → HasRemoved old old slot found.left tree
@@ -202,6 +203,7 @@ module _ (old : List NodeData) (link slot : ℕ) (tree : Tree) (found : ForkData
         left_out = sym (append-nil (slots_of at.before))
             ∙ left_out_right [] (on_the_right most) (sym (ap (λ t. without slot (slots_of t)) own ∙ without_own slot));
         rest = keeps_none old (slots_of tree);
+        head = refl;
       }
 
   module _ (mid : List NodeData) (left : ℕ) (less : key_of old slot < key_of old (link / 2))
@@ -220,11 +222,17 @@ module _ (old : List NodeData) (link slot : ℕ) (tree : Tree) (found : ForkData
       place = at.place;
     }
 
+    -- nothing was written to the fork
+    left_fork : fork_of mid (link / 2) ≡ found
+    left_fork = done.rest.same_forks (link / 2) (λ written.
+        apart old at.before at.after at.order (link / 2) (first_of at.after) written (has_first at.after) at.place)
+        ∙ sym at.read
+
     -- by the fork with the new link, which still has the item
-    pub remove_left_less : HasLess mid (link / 2)
+    found_left_less : HasLess mid (link / 2)
         (record { least = found.least; left = left; right = found.right; size = found.size; common = found.common })
         slot done.made at.after
-    remove_left_less =
+    found_left_less =
         let size = removed_size old mid slot left at.before at.to_left.held (on_the_left less) done in
         let least = removed_least old mid slot left at.before (on_the_left less) done in
         let kept = least_kept old mid at.after (λ u h. done.rest.same_estimates u) in
@@ -234,6 +242,13 @@ module _ (old : List NodeData) (link slot : ℕ) (tree : Tree) (found : ForkData
           counted = (let counted = at.counted in omega arith);
           lowest = (let lowest = at.lowest in omega arith);
         }
+
+    pub remove_left_less : (again : ForkData) → again ≡ fork_of mid (link / 2) → HasLess mid (link / 2)
+        (record { least = again.least; left = left; right = again.right; size = again.size; common = again.common })
+        slot done.made at.after
+    remove_left_less again read = subst (λ f. HasLess mid (link / 2)
+        (record { least = f.least; left = left; right = f.right; size = f.size; common = f.common }) slot done.made at.after)
+        (sym (read ∙ left_fork)) found_left_less
 
     pub remove_left : (new : List NodeData) (made : ℕ) → KeepsItems mid new (link / 2 ∷ [])
         → IsAt new made (branch done.made at.after) → HasRemoved old new slot made tree
@@ -250,6 +265,13 @@ module _ (old : List NodeData) (link slot : ℕ) (tree : Tree) (found : ForkData
                 (subst (Has (slots_of at.after)) (sym (same ∙ at.place)) (has_first at.after)))
             | inr none ↦ absurd none
           ]));
+      head = subst (λ u. fork_of new u ≡ fork_of old u) (sym (ap first_of at.whole))
+          (keeps.same_forks (first_of at.before) (λ h. elim h [
+            | inl same ↦ apart old at.before at.after at.order (first_of at.before) (first_of at.after) (has_first at.before) (has_first at.after)
+                (same ∙ at.place)
+            | inr none ↦ none
+          ])
+          ∙ done.head);
     }
 
   module _ (mid : List NodeData) (right place : ℕ) (most : key_of old (link / 2) ≤ key_of old slot)
@@ -272,10 +294,13 @@ module _ (old : List NodeData) (link slot : ℕ) (tree : Tree) (found : ForkData
       place = is;
     }
 
-    pub remove_right_less : place ≡ first_of done.made → HasLess mid place
+    right_fork : fork_of mid (link / 2) ≡ found
+    right_fork = ap (fork_of mid) at.place ∙ done.head ∙ sym (ap (fork_of old) at.place) ∙ sym at.read
+
+    found_right_less : place ≡ first_of done.made → HasLess mid place
         (record { least = found.least; left = found.left; right = right; size = found.size; common = found.common })
         slot at.before done.made
-    remove_right_less is =
+    found_right_less is =
         let size = removed_size old mid slot right at.after at.to_right.held (on_the_right most) done in
         let least = removed_least old mid slot right at.after (on_the_right most) done in
         let kept = least_kept old mid at.before (λ u h. done.rest.same_estimates u) in
@@ -285,6 +310,13 @@ module _ (old : List NodeData) (link slot : ℕ) (tree : Tree) (found : ForkData
           counted = (let counted = at.counted in omega arith);
           lowest = (let lowest = at.lowest in omega arith);
         }
+
+    pub remove_right_less : (again : ForkData) → again ≡ fork_of mid (link / 2) → place ≡ first_of done.made → HasLess mid place
+        (record { least = again.least; left = again.left; right = right; size = again.size; common = again.common })
+        slot at.before done.made
+    remove_right_less again read is = subst (λ f. HasLess mid place
+        (record { least = f.least; left = f.left; right = right; size = f.size; common = f.common }) slot at.before done.made)
+        (sym (read ∙ right_fork)) (found_right_less is)
 
     pub remove_right : (new : List NodeData) (made : ℕ) → place ≡ first_of done.made → KeepsItems mid new (place ∷ [])
         → IsAt new made (branch at.before done.made) → HasRemoved old new slot made tree
@@ -301,4 +333,12 @@ module _ (old : List NodeData) (link slot : ℕ) (tree : Tree) (found : ForkData
                 (was_right u (subst (Has (slots_of done.made)) (sym (same ∙ is)) (has_first done.made))))
             | inr none ↦ absurd none
           ]));
+      head = subst (λ u. fork_of new u ≡ fork_of old u) (sym (ap first_of at.whole))
+          (keeps.same_forks (first_of at.before) (λ h. elim h [
+            | inl same ↦ apart old at.before at.after at.order (first_of at.before) (first_of done.made) (has_first at.before)
+                (was_right (first_of done.made) (has_first done.made)) (same ∙ is)
+            | inr none ↦ none
+          ])
+          ∙ done.rest.same_forks (first_of at.before) (λ written.
+          apart old at.before at.after at.order (first_of at.before) (first_of at.before) (has_first at.before) written refl));
     }

@@ -90,7 +90,7 @@ pub(crate) fn is_leaf_of(link: u32, slot: u32) -> bool
     ensures yes { IsTrue result → link ≡ 2 * slot }
     ensures no { IsFalse result → link ≢ 2 * slot }
 {
-    link % 2 == 0 && link / 2 == slot
+    link as u64 == 2 * slot as u64
 }
 
 /// Returns the first item of a tree of which an item was removed. It was `here`.
@@ -105,7 +105,8 @@ pub(crate) fn place_after(nodes: &[QueueNode], here: u32, right: u32, slot: u32)
     oldest_in(nodes, right)
 }
 
-/// Removes an item of a tree of at least two. Returns the link to the new tree.
+/// Removes an item of a tree of at least two. Returns the link to the new tree. A fork is read again
+/// after the removal below it, so that no copy of it is kept meanwhile.
 pub(crate) fn remove_in(nodes: &mut [QueueNode], link: u32, slot: u32) -> u32
     requires { (tree : Tree) × CanRemove nodes.old link slot tree }
     ensures { (tree : Tree) → CanRemove nodes.old link slot tree
@@ -118,12 +119,14 @@ pub(crate) fn remove_in(nodes: &mut [QueueNode], link: u32, slot: u32) -> u32
             return fork.right;
         }
         let left = remove_in(nodes, fork.left, slot);
-        return put_less(nodes, here, Fork { left, ..fork }, slot);
+        let again = fork_at(nodes, here);
+        return put_less(nodes, here, Fork { left, ..again }, slot);
     }
     if is_leaf_of(fork.right, slot) {
         return fork.left;
     }
     let right = remove_in(nodes, fork.right, slot);
     let place = place_after(nodes, here, right, slot);
-    put_less(nodes, place, Fork { right, ..fork }, slot)
+    let again = fork_at(nodes, here);
+    put_less(nodes, place, Fork { right, ..again }, slot)
 }

@@ -27,7 +27,7 @@ put_less-requires t c =
     let at = branch_at c.args.nodes.now c.args.link c.requires.0 c.fork_at-fork.result c.requires.1.found c.requires.1.forked c.fork_at-fork.ensures in
     let less : key_of c.args.nodes.now c.args.slot < key_of c.args.nodes.now (c.args.link / 2) = omega (arith, c.key_at.ensures, c.key_at-2.ensures, c.if-key_at.true) in
     let done = c.remove_in-left.ensures at.before (can_remove_left c.args.nodes.now c.args.link c.args.slot c.requires.0 c.fork_at-fork.result c.requires.1 at less (c.is_leaf_of.ensures.no c.if-is_leaf_of.false)) in
-    (done.made, (at.after, remove_left_less c.args.nodes.now c.args.link c.args.slot c.requires.0 c.fork_at-fork.result c.requires.1 at c.remove_in-left.new.nodes c.remove_in-left.result less done))
+    (done.made, (at.after, remove_left_less c.args.nodes.now c.args.link c.args.slot c.requires.0 c.fork_at-fork.result c.requires.1 at c.remove_in-left.new.nodes c.remove_in-left.result less done c.fork_at-again.result c.fork_at-again.ensures))
 
 pub returns-then-key_at : goal.returns-then-key_at
 returns-then-key_at t c = λ tree can.
@@ -36,7 +36,7 @@ returns-then-key_at t c = λ tree can.
     let done = c.remove_in-left.ensures at.before (can_remove_left c.args.nodes.now c.args.link c.args.slot tree c.fork_at-fork.result can at less (c.is_leaf_of.ensures.no c.if-is_leaf_of.false)) in
     remove_left c.args.nodes.now c.args.link c.args.slot tree c.fork_at-fork.result can at c.remove_in-left.new.nodes c.remove_in-left.result less done c.put_less.new.nodes c.put_less.result
     c.put_less.ensures.others
-    (c.put_less.ensures.tree done.made at.after (remove_left_less c.args.nodes.now c.args.link c.args.slot tree c.fork_at-fork.result can at c.remove_in-left.new.nodes c.remove_in-left.result less done))
+    (c.put_less.ensures.tree done.made at.after (remove_left_less c.args.nodes.now c.args.link c.args.slot tree c.fork_at-fork.result can at c.remove_in-left.new.nodes c.remove_in-left.result less done c.fork_at-again.result c.fork_at-again.ensures))
 
 pub returns-then-is_leaf_of-2 : goal.returns-then-is_leaf_of-2
 returns-then-is_leaf_of-2 t c = λ tree can.
@@ -64,7 +64,7 @@ put_less-requires-2 t c =
     let most : key_of c.args.nodes.now (c.args.link / 2) ≤ key_of c.args.nodes.now c.args.slot = omega (arith, c.key_at.ensures, c.key_at-2.ensures, c.if-key_at.false) in
     let done = c.remove_in-right.ensures at.after (can_remove_right c.args.nodes.now c.args.link c.args.slot c.requires.0 c.fork_at-fork.result c.requires.1 at most (c.is_leaf_of-2.ensures.no c.if-is_leaf_of-2.false)) in
     let is = c.place_after-place.ensures done.made done.found (same_place c.args.nodes.now c.args.link c.args.slot c.requires.0 c.fork_at-fork.result c.requires.1 at c.remove_in-right.new.nodes c.remove_in-right.result c.place_after-place.result most done) in
-    (at.before, (done.made, remove_right_less c.args.nodes.now c.args.link c.args.slot c.requires.0 c.fork_at-fork.result c.requires.1 at c.remove_in-right.new.nodes c.remove_in-right.result c.place_after-place.result most done is))
+    (at.before, (done.made, remove_right_less c.args.nodes.now c.args.link c.args.slot c.requires.0 c.fork_at-fork.result c.requires.1 at c.remove_in-right.new.nodes c.remove_in-right.result c.place_after-place.result most done c.fork_at-again-2.result c.fork_at-again-2.ensures is))
 
 pub returns : goal.returns
 returns t c = λ tree can.
@@ -74,4 +74,4 @@ returns t c = λ tree can.
     let is = c.place_after-place.ensures done.made done.found (same_place c.args.nodes.now c.args.link c.args.slot tree c.fork_at-fork.result can at c.remove_in-right.new.nodes c.remove_in-right.result c.place_after-place.result most done) in
     remove_right c.args.nodes.now c.args.link c.args.slot tree c.fork_at-fork.result can at c.remove_in-right.new.nodes c.remove_in-right.result c.place_after-place.result most done c.put_less-2.new.nodes c.put_less-2.result is
     c.put_less-2.ensures.others
-    (c.put_less-2.ensures.tree at.before done.made (remove_right_less c.args.nodes.now c.args.link c.args.slot tree c.fork_at-fork.result can at c.remove_in-right.new.nodes c.remove_in-right.result c.place_after-place.result most done is))
+    (c.put_less-2.ensures.tree at.before done.made (remove_right_less c.args.nodes.now c.args.link c.args.slot tree c.fork_at-fork.result can at c.remove_in-right.new.nodes c.remove_in-right.result c.place_after-place.result most done c.fork_at-again-2.result c.fork_at-again-2.ensures is))
