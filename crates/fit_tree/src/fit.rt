@@ -1,8 +1,9 @@
 //! A machine as a value.
 
-ghost use Rattle.std.specs.Prelude.{◌≡◌, ℕ, ◌-◌, ◌^◌, ◌<◌, ◌≤◌, ◌↔◌, Some, None, IsOk, IsTrue, IfErr, IfOk, IfSome, IfNone, OnOk, OnErr};
+ghost use Rattle.std.specs.Prelude.{◌≡◌, ℕ, ◌+◌, ◌-◌, ◌^◌, ◌<◌, ◌≤◌, ◌↔◌, Some, None, IsOk, IsTrue, IfErr, IfOk, IfSome, IfNone, OnOk, OnErr};
 ghost use Rattle.cube_shape.specs.declared.region.Region.{Region as HeldRegion};
 ghost use Rattle.cube_shape.specs.Region.{Covers, IsAligned, block};
+ghost use Rattle.cube_shape.specs.Node.{IsNodeOf};
 ghost use Rattle.cube_shape.specs.Falling.{HoldsNoNarrower, IsFull, IsHeld};
 ghost use Rattle.cube_shape.specs.Machine.{Gives, HasNoFit, IsFirstFit, IsFree, IsLawful, TakesBack};
 ghost use Rattle.region_bits.specs.Count.{IsCount};
@@ -95,16 +96,17 @@ impl FitTree {
         image::is_free(&self.rooms, self.dim, region)
     }
 
-    /// Returns whether a half of a block has a free block of dimension `k`. It is right only if
-    /// the block has one, and takes one step.
-    pub fn has_fit_in(&self, k: u32, half: Region) -> bool
-        requires half { IsAligned self.now.dim half }
-        requires dim { k ≤ half.dim }
-        ensures { (whole : HeldRegion) → IsAligned self.now.dim whole → IsHalfOf whole half
+    /// Returns whether a half of a block has a free block of dimension `k`. The half is that of a
+    /// node. It is right only if the block has one, and takes one step.
+    pub fn has_fit_at(&self, k: u32, node: usize) -> bool
+        requires dim { k ≤ self.now.dim }
+        requires node { node < 2 ^ (self.now.dim + 1) }
+        ensures { (whole half : HeldRegion) → IsNodeOf self.now.dim node half → k ≤ half.dim
+            → IsAligned self.now.dim whole → IsHalfOf whole half
             → HasFitIn self.now.dim k (held_in self.now) whole
             → IsTrue result ↔ HasFitIn self.now.dim k (held_in self.now) half }
     {
-        image::has_fit_in(&self.rooms, self.dim, k, half)
+        image::has_fit_at(&self.rooms, self.dim, k, node)
     }
 
     /// Returns whether a block is held as one block.

@@ -6,6 +6,7 @@
 
 ghost use Rattle.std.specs.Prelude.{◌≡◌, ℕ, ◌+◌, ◌-◌, ◌^◌, ◌<◌, ◌≤◌, ◌↔◌, length, List, false, Some, None, IfErr, IfSome, IfNone, IsTrue, OnOk, OnErr};
 ghost use Rattle.cube_shape.specs.Region.{Covers, IsAligned, block};
+ghost use Rattle.cube_shape.specs.Node.{IsNodeOf};
 ghost use Rattle.cube_shape.specs.Falling.{IsHeld};
 ghost use Rattle.cube_shape.specs.Machine.{Gives, HasNoFit, IsFirstFit, IsFree, TakesBack};
 ghost use Rattle.cube_shape.specs.declared.region.Region.{Region as HeldRegion};
@@ -273,18 +274,19 @@ pub fn is_free(rooms: &[u8], n: u32, region: Region) -> bool
     walks::is_open(rooms, n, region.dim, node_of(n, region))
 }
 
-/// Returns whether a half of a block has a free block of dimension `k`, if the block has one.
-pub(crate) fn has_fit_in(rooms: &[u8], n: u32, k: u32, half: Region) -> bool
+/// Returns whether a half of a block has a free block of dimension `k`, if the block has one. The
+/// half is that of a node.
+pub(crate) fn has_fit_at(rooms: &[u8], n: u32, k: u32, node: usize) -> bool
     requires machine { n ≤ MAX_BITMAP_DIM }
     requires rooms { length rooms.now ≡ 2 ^ (n + 1) }
-    requires half { IsAligned n half }
-    requires dim { k ≤ half.dim }
-    ensures { (head : ImageHead) (whole : HeldRegion) → IsImage n head rooms.now
-        → IsAligned n whole → IsHalfOf whole half
+    requires node { node < 2 ^ (n + 1) }
+    requires dim { k ≤ n }
+    ensures { (head : ImageHead) (whole half : HeldRegion) → IsImage n head rooms.now
+        → IsNodeOf n node half → k ≤ half.dim → IsAligned n whole → IsHalfOf whole half
         → HasFitIn n k (held_in (fit_in n rooms.now)) whole
         → IsTrue result ↔ HasFitIn n k (held_in (fit_in n rooms.now)) half }
 {
-    if rooms[node_of(n, half)] < k as u8 + 2 {
+    if rooms[node] < k as u8 + 2 {
         return false;
     }
     true

@@ -4,5 +4,6 @@ pub mod LatestLemmas
 pub mod ChangeLemmas
 pub mod SameLemmas
 pub mod PartLemmas
+pub mod ChildLemmas
 pub mod CountLemmas
 pub mod ExistLemmas

@@ -162,7 +162,7 @@ module _ (w : Sched) (b : Layout) (k : Shows w b) where
   none_beside_at_all n avoid dims (Some l) none = none
 
 -- the machine as one block
-root_is : (n : ℕ) → block n 0 ≡ record { base = 0; dim = n }
+pub root_is : (n : ℕ) → block n 0 ≡ record { base = 0; dim = n }
 root_is n = let none : 0 * 2 ^ n ≡ 0 = omega arith in ap (λ (x : ℕ). record { base = x; dim = n }) none
 
 -- the way down begins there

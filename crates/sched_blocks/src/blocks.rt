@@ -1,8 +1,9 @@
 //! The blocks of a scheduler as a value.
 
-ghost use Rattle.std.specs.Prelude.{◌≡◌, ℕ, ◌+◌, ◌-◌, ◌^◌, ◌<◌, ◌≤◌, ◌↔◌, Some, IsOk, IsTrue, IfOk, IfSome, OnOk, IfNone};
+ghost use Rattle.std.specs.Prelude.{◌≡◌, ℕ, ◌+◌, ◌-◌, ◌*◌, ◌^◌, ◌<◌, ◌≤◌, ◌↔◌, ◌⊎◌, Some, IsOk, IsTrue, IfOk, IfSome, OnOk, IfNone};
 ghost use Rattle.cube_shape.specs.declared.region.Region.{Region as HeldRegion};
 ghost use Rattle.cube_shape.specs.Region.{IsAligned, block};
+ghost use Rattle.cube_shape.specs.Node.{IsNodeOf};
 ghost use Rattle.cube_shape.specs.Falling.{IsHeld};
 ghost use Rattle.region_bits.specs.Count.{IsCount};
 ghost use Rattle.sched_law.specs.declared.job.SchedWait.{SchedWait as WaitData};
@@ -12,7 +13,7 @@ ghost use Rattle.sched_law.specs.Policy.{Chooses, HasNone, HasUsable, HasUsableI
 ghost use Rattle.fixed_vec.specs.Spending.{HasWords, Spends};
 ghost use Rattle.sched_blocks.specs.Shows.{Shows, block_words};
 
-use crate::nodes::{lower, node_of, note_idle, note_use, upper};
+use crate::nodes::{block_of, node_of, note_idle, note_use};
 use block_trees::{end_at, is_earlier, open};
 use cube_shape::{MAX_BITMAP_DIM, Region};
 use fit_tree::FitTree;
@@ -252,14 +253,11 @@ impl Blocks {
         ensures chosen { (w : Sched) → Shows w self.now → HasUsable w k
             → Chooses w k (block w.dim 0) result }
     {
-        let mut part = Region {
-            base: 0,
-            dim: self.dim,
-        };
+        let mut node = 1;
         for _ in k..self.dim {
-            part = self.better_half(k, part);
+            node = self.better_child(k, node);
         }
-        part
+        block_of(self.dim, k, node)
     }
 
     /// Returns how many processors jobs hold.
@@ -277,29 +275,25 @@ impl Blocks {
         self.out.held_processors()
     }
 
-    // Returns the half of a part of the machine in which the block to reserve is.
-    fn better_half(&self, k: u32, part: Region) -> Region
-        requires part { IsAligned self.now.dim part }
-        requires dim { k < part.dim }
-        ensures aligned { IsAligned self.now.dim result }
-        ensures dim { result.dim + 1 ≡ part.dim }
-        ensures goes { (w : Sched) → Shows w self.now → HasUsableIn w k part
-            → HasUsableIn w k result
-            × ((s : HeldRegion) → Chooses w k result s → Chooses w k part s) }
+    // Returns the child of a node in which the block to reserve is.
+    fn better_child(&self, k: u32, node: usize) -> usize
+        requires machine { self.now.dim ≤ MAX_BITMAP_DIM }
+        requires dim { k ≤ self.now.dim }
+        requires node { node < 2 ^ self.now.dim }
+        ensures child { (result ≡ 2 * node) ⊎ (result ≡ 2 * node + 1) }
+        ensures goes { (w : Sched) (part half : HeldRegion) → Shows w self.now
+            → IsNodeOf self.now.dim node part → IsNodeOf self.now.dim result half → k < part.dim
+            → HasUsableIn w k part
+            → HasUsableIn w k half × ((s : HeldRegion) → Chooses w k half s → Chooses w k part s) }
     {
-        let lower = lower(part);
-        let upper = upper(self.dim, part);
-        if !self.out.has_fit_in(k, upper) {
+        let lower = 2 * node;
+        let upper = lower + 1;
+        if !self.out.has_fit_at(k, upper) {
             return lower;
         }
-        if !self.out.has_fit_in(k, lower) {
+        if !self.out.has_fit_at(k, lower) {
             return upper;
         }
-        let low = node_of(self.dim, lower);
-        let high = node_of(self.dim, upper);
-        if is_earlier(&self.ends, &self.busy, high, low) {
-            return upper;
-        }
-        lower
+        lower + is_earlier(&self.ends, &self.busy, upper, lower) as usize
     }
 }

@@ -4,7 +4,6 @@ ghost use Rattle.std.specs.Prelude.{◌≡◌, ℕ, ◌+◌, ◌^◌, ◌<◌, �
 ghost use Rattle.cube_shape.specs.Region.{IsAligned};
 ghost use Rattle.cube_shape.specs.Node.{IsNodeOf};
 ghost use Rattle.fit_tree.specs.Rooms.{IsNode};
-ghost use Rattle.fit_tree.specs.Halves.{lower_half, upper_half};
 ghost use Rattle.sched_law.specs.State.{set};
 ghost use Rattle.block_trees.specs.Ends.{AreEnds, HasNoEndBeside};
 ghost use Rattle.block_trees.specs.Busy.{AreBusy, HasNoneBeside};
@@ -24,29 +23,16 @@ pub(crate) fn node_of(n: u32, region: Region) -> usize
     (1 << (n - region.dim)) + (region.base >> region.dim) as usize
 }
 
-/// Returns the lower half of a block.
-pub(crate) fn lower(region: Region) -> Region
-    requires { 0 < region.dim }
-    ensures half { result ≡ lower_half region }
-    ensures aligned { (n : ℕ) → IsAligned n region → IsAligned n result }
-{
-    Region {
-        base: region.base,
-        dim: region.dim - 1,
-    }
-}
-
-/// Returns the upper half of a block.
-pub(crate) fn upper(n: u32, region: Region) -> Region
+/// Returns the block of a node of dimension `k`.
+pub(crate) fn block_of(n: u32, k: u32, node: usize) -> Region
     requires machine { n ≤ MAX_BITMAP_DIM }
-    requires region { IsAligned n region }
-    requires halves { 0 < region.dim }
-    ensures half { result ≡ upper_half region }
-    ensures aligned { IsAligned n result }
+    requires node { IsNode n k node }
+    ensures named { IsNodeOf n node result }
+    ensures dim { result.dim ≡ k }
 {
     Region {
-        base: region.base + (1 << (region.dim - 1)),
-        dim: region.dim - 1,
+        base: ((node - (1 << (n - k))) << k) as u64,
+        dim: k,
     }
 }
 

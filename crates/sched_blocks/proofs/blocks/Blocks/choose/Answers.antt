@@ -1,9 +1,11 @@
-use Rattle.std.proofs.Common.{◌≡◌, ℕ, refl, sym, ap, subst, arith}
-use Rattle.cube_shape.specs.Region.{IsAligned}
+-- A step goes to a child, as far as to the dimension.
+use Rattle.std.proofs.Common.{◌≡◌, suc, ◌+◌, ◌-◌, ◌<◌, ap, subst, arith}
+use Rattle.cube_shape.specs.Node.{IsNodeOf}
+use Rattle.fit_tree.specs.Rooms.{IsNode}
+use Rattle.fit_tree.proofs.NodeLemmas.{IsNode-root}
 use Rattle.sched_law.specs.Policy as policy
 use Rattle.sched_blocks.specs.Layout.{Layout}
-use Rattle.sched_blocks.specs.Shows.{Shows}
-use Rattle.sched_blocks.proofs.PartLemmas.{machine_aligned, way_begins}
+use Rattle.sched_blocks.proofs.ChildLemmas.{child_level, inner_node, part_of, way_starts}
 use Rattle.sched_blocks.proofs.blocks.Blocks.choose.Goals as goal
 
 pub loop-init : goal.loop-init
@@ -11,28 +13,38 @@ loop-init c =
     let dims : c.self.inside.dim ≡ c.args.self.now.dim = ap (λ (b : Layout). b.dim) c.self.view_is in
     record {
       ends = dims;
-      aligned = subst (λ (n : ℕ). IsAligned n (record { base = 0; dim = c.self.inside.dim })) dims (machine_aligned c.self.inside.dim);
       bound = omega (arith, dims, c.requires);
-      dims = refl;
-      goes = λ w shows has. way_begins w _ (subst (Shows w) (sym c.self.view_is) shows) c.args.k has;
+      level = λ d sum.
+          let same : c.args.self.now.dim ≡ d = omega (arith, sum, dims) in
+          subst (λ e. IsNode c.args.self.now.dim e 1) same (IsNode-root c.args.self.now.dim);
+      goes = λ w part shows has named. way_starts w c.args.self.now shows c.args.k part has named;
     }
 
-pub better_half-part-requires-clause-part : goal.better_half-part-requires-clause-part
-better_half-part-requires-clause-part c = c.loop.invariant.aligned
+pub better_child-node-requires-clause-node : goal.better_child-node-requires-clause-node
+better_child-node-requires-clause-node c =
+    let bound : c.loop.counter < c.self.inside.dim = omega arith in
+    let level : c.self.inside.dim + c.args.k - c.loop.counter + c.loop.counter ≡ c.self.inside.dim + c.args.k = omega (arith, bound) in
+    inner_node c.args.self.now.dim (c.self.inside.dim + c.args.k - c.loop.counter) c.loop.node (omega (arith, bound))
+    (c.loop.invariant.level (c.self.inside.dim + c.args.k - c.loop.counter) level)
 
 pub loop-preserved : goal.loop-preserved
 loop-preserved c = record {
   ends = c.loop.invariant.ends;
-  aligned = c.better_half-part.ensures.aligned;
   bound = omega arith;
-  dims = omega (arith, c.loop.invariant.dims, c.better_half-part.ensures.dim);
-  goes = λ w shows has.
-      let before = c.loop.invariant.goes w shows has in
-      let step = c.better_half-part.ensures.goes w shows before.0 in
+  level = λ d sum. child_level c.args.self.now.dim d c.loop.node c.better_child-node.result
+      (c.loop.invariant.level (suc d) (omega (arith, sum))) c.better_child-node.ensures.child;
+  goes = λ w half shows has of_half.
+      let bound : c.loop.counter < c.self.inside.dim = omega arith in
+      let level : c.self.inside.dim + c.args.k - c.loop.counter + c.loop.counter ≡ c.self.inside.dim + c.args.k = omega (arith, bound) in
+      let at = part_of c.args.self.now.dim (c.self.inside.dim + c.args.k - c.loop.counter) c.loop.node
+      (c.loop.invariant.level (c.self.inside.dim + c.args.k - c.loop.counter) level) in
+      let before = c.loop.invariant.goes w at.0 shows has at.1 in
+      let dim = at.2 in
+      let step = c.better_child-node.ensures.goes w at.0 half shows at.1 of_half (omega (arith, bound, dim)) before.0 in
       (step.0, λ s rest. before.1 s (step.1 s rest));
 }
 
 pub returns-clause-chosen : goal.returns-clause-chosen
 returns-clause-chosen c = λ w shows has.
-    let arrived : c.loop.part.dim ≡ c.args.k = omega arith in
-    (c.loop.invariant.goes w shows has).1 c.loop.part (policy.arrives c.loop.part arrived)
+    let named = subst (λ n. IsNodeOf n c.loop.node c.block_of.result) c.loop.invariant.ends c.block_of.ensures.named in
+    (c.loop.invariant.goes w c.block_of.result shows has named).1 c.block_of.result (policy.arrives c.block_of.result c.block_of.ensures.dim)

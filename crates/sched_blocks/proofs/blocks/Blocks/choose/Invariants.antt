@@ -1,6 +1,9 @@
--- The way down so far leads to the part.
-use Rattle.std.proofs.Common.{◌≡◌, ◌+◌, ◌≤◌}
-use Rattle.cube_shape.specs.Region.{IsAligned, block}
+-- The way down so far leads to the node.
+use Rattle.std.proofs.Common.{◌≡◌, ℕ, ◌+◌, ◌≤◌}
+use Rattle.cube_shape.specs.declared.region.Region.{Region}
+use Rattle.cube_shape.specs.Node.{IsNodeOf}
+use Rattle.cube_shape.specs.Region.{block}
+use Rattle.fit_tree.specs.Rooms.{IsNode}
 use Rattle.sched_law.specs.State.{Sched}
 use Rattle.sched_law.specs.Policy.{HasUsable}
 use Rattle.sched_blocks.specs.Shows.{Shows}
@@ -10,8 +13,7 @@ use Rattle.sched_blocks.proofs.blocks.Blocks.choose.Given as goal
 abbrev pub invariant-loop : goal.invariant-loop
 invariant-loop l = record {
   ends : l.end ≡ l.self.dim;
-  aligned : IsAligned l.self.dim l.part;
   bound : l.counter ≤ l.end;
-  dims : l.part.dim + l.counter ≡ l.end + l.k;
-  goes : (w : Sched) → Shows w l.self → HasUsable w l.k → GoesTo w l.k (block w.dim 0) l.part;
+  level : (d : ℕ) → d + l.counter ≡ l.end + l.k → IsNode l.self.dim d l.node;
+  goes : (w : Sched) (part : Region) → Shows w l.self → HasUsable w l.k → IsNodeOf l.self.dim l.node part → GoesTo w l.k (block w.dim 0) part;
 }
