@@ -1,4 +1,6 @@
 //! How an answer about a job is made.
+//!
+//! An answer is large. These functions are parts of their callers, so that it is written once.
 
 ghost use Rattle.std.specs.Prelude.{◌≡◌, ℕ, ◌+◌, ◌<◌};
 ghost use Rattle.sched_law.specs.declared.job.Place.TheVariants.{Waiting};
@@ -51,6 +53,7 @@ pub(crate) fn refused(code: u32) -> PlanJob
 }
 
 // Makes the answer about a job at a spot.
+#[inline(always)]
 fn answer_of(names: Names, job: SchedJob, spot: Spot) -> PlanJob
     ensures code { result.code ≡ DONE }
     ensures ticket { result.ticket ≡ names.ticket }
@@ -78,6 +81,7 @@ fn answer_of(names: Names, job: SchedJob, spot: Spot) -> PlanJob
 }
 
 // Makes the answer about a running job.
+#[inline(always)]
 fn running(names: Names, run: SchedRun) -> PlanJob
     ensures code { result.code ≡ DONE }
     ensures ticket { result.ticket ≡ names.ticket }
@@ -96,6 +100,7 @@ fn running(names: Names, run: SchedRun) -> PlanJob
 }
 
 // Makes the answer about a waiting job with this forecast.
+#[inline(always)]
 fn waiting(names: Names, job: SchedJob, forecast: Forecast) -> PlanJob
     ensures code { result.code ≡ DONE }
     ensures ticket { result.ticket ≡ names.ticket }
@@ -124,6 +129,7 @@ fn waiting(names: Names, job: SchedJob, forecast: Forecast) -> PlanJob
 }
 
 // Returns the answer about the job of a slot, with this number of jobs before it.
+#[inline(always)]
 fn described(scheduler: &Scheduler, slot: u32, before: u64) -> PlanJob
     requires inside { slot < slots_of scheduler.now }
     requires job { IsTaken scheduler.now slot }
@@ -160,6 +166,7 @@ pub(crate) fn listed(scheduler: &Scheduler, slot: u32) -> PlanJob
 }
 
 // Returns how many waiting jobs come before that of a slot.
+#[inline(always)]
 fn before(scheduler: &Scheduler, slot: u32) -> u64
     requires inside { slot < slots_of scheduler.now }
     requires job { IsTaken scheduler.now slot }
@@ -173,6 +180,7 @@ fn before(scheduler: &Scheduler, slot: u32) -> u64
 }
 
 // Returns the answer about the job of a slot.
+#[inline(always)]
 pub(crate) fn answer_at(scheduler: &Scheduler, slot: u32) -> PlanJob
     requires inside { slot < slots_of scheduler.now }
     requires job { IsTaken scheduler.now slot }
