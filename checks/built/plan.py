@@ -20,7 +20,7 @@ PROGRAM = "checks/built/plan.rs"
 
 SLIPS = (
     Slip("a job without an estimate is brief", "sched_core/small.rs", "return 0;", "return NEVER;"),
-    Slip("the front of a queue stays", "wait_queue/queues.rs", "place_after(nodes, queue.front, queue.root, slot)", "queue.front"),
+    Slip("the front of a queue stays", "wait_queue/queues.rs", "first_after(queue.front, next, slot)", "queue.front"),
     Slip("each usable half is chosen", "sched_blocks/blocks.rs", "if !self.out.has_fit_at(k, upper) {", "if false {"),
     Slip("a free slot is not linked back", "sched_jobs/line_table.rs", "self.set_rank(next, slot as u64 + 1);", ""),
     Slip("all jobs come before", "sched_core/forecast.rs", "before + 1", "before + 2"),

@@ -1,6 +1,6 @@
 -- Queues.
 use Rattle.std.proofs.Common.{◌≡◌, ◌≢◌, ℕ, ◌*◌, ◌/◌, ◌%◌, ◌<◌, ◌≤◌, inl, inr, cond, List, [], ◌∷◌, ◌++◌, Option, Some, length, refl, sym, ◌∙◌, ap, subst, arith}
-use Rattle.std.proofs.lemmas.Bool.{eq-eqb, ne_eqb}
+use Rattle.std.proofs.lemmas.Bool.{cases_eq, eq-eqb, ne_eqb}
 use Rattle.wait_queue.specs.declared.nodes.TheConstants.{MAX_SLOTS, NO_LINK}
 use Rattle.wait_queue.specs.declared.nodes.QueueNode.{QueueNode as NodeData}
 use Rattle.wait_queue.specs.declared.queues.Queue.{Queue as QueueData}
@@ -235,16 +235,16 @@ module _ (old : List NodeData) (queue : QueueData) (slots : List ℕ) (slot : �
       ap (without slot) (sym tree_of.all ∙ ap slots_of own) ∙ ap (λ b. cond b [] (slot ∷ [])) (eq-eqb slot slot refl) in
       subst (IsQueue old made) (sym none) (empty_queue old made empty)
 
-  pub removed_queue : (new : List NodeData) (made : QueueData) (link : ℕ) → (done : HasRemoved old new slot link tree_of.tree) → made.root ≡ link → made.front ≡ first_of done.made
+  pub removed_queue : (new : List NodeData) (made : QueueData) (link next : ℕ) → (done : HasRemoved old new slot link next tree_of.tree) → made.root ≡ link → made.front ≡ first_of done.made
       → IsQueue new made (without slot slots)
-  removed_queue new made link done is front =
+  removed_queue new made link next done is front =
       queue_of_tree new made (without slot slots) done.made (subst (λ l. IsAt new l done.made) (sym is) done.found)
       (done.left_out ∙ ap (without slot) tree_of.all)
       (let head = first_is_head done.made in ap Some front ∙ sym (ap first_slot head.1) ∙ ap first_slot (done.left_out ∙ ap (without slot) tree_of.all))
 
   -- the front stays, if it was not removed
-  pub front_left : (new : List NodeData) (link : ℕ) (done : HasRemoved old new slot link tree_of.tree) → queue.front ≢ slot → queue.front ≡ first_of done.made
-  front_left new link done other =
+  front_left : (new : List NodeData) (link next : ℕ) (done : HasRemoved old new slot link next tree_of.tree) → queue.front ≢ slot → queue.front ≡ first_of done.made
+  front_left new link next done other =
       let head = first_is_head done.made in
       let left = first_without slots slot queue.front (front_is old queue slots has.is_queue tree_of) other in
       one_of_two queue.front (first_of done.made) (left ∙ sym (ap first_slot (done.left_out ∙ ap (without slot) tree_of.all)) ∙ ap first_slot head.1)
@@ -252,8 +252,19 @@ module _ (old : List NodeData) (queue : QueueData) (slots : List ℕ) (slot : �
       one_of_two : (a b : ℕ) → ◌≡◌ {A = Option ℕ} (Some a) (Some b) → a ≡ b
       one_of_two a b same = cc
 
-  pub removed_others : (new : List NodeData) (link : ℕ) → HasRemoved old new slot link tree_of.tree → HasOthers old new slots
-  removed_others new link done =
+  -- the next one is the front, if that was removed
+  pub front_is_first : (new : List NodeData) (link next front : ℕ) (done : HasRemoved old new slot link next tree_of.tree)
+      → (queue.front ≢ slot → front ≡ queue.front) → (queue.front ≡ slot → front ≡ next) → front ≡ first_of done.made
+  front_is_first new link next front done stays goes = elim (cases_eq queue.front slot) [
+    | inr other ↦ stays other ∙ front_left new link next done other
+    | inl same ↦
+        let head = first_is_head tree_of.tree in
+        let own = has.is_queue.first (first_of tree_of.tree) (ap first_slot (sym tree_of.all) ∙ ap first_slot head.1) in
+        goes same ∙ done.second (sym own ∙ same)
+  ]
+
+  pub removed_others : (new : List NodeData) (link next : ℕ) → HasRemoved old new slot link next tree_of.tree → HasOthers old new slots
+  removed_others new link next done =
       others_more old new (slots_of tree_of.tree) slots (λ u h. subst (λ xs. Has xs u) tree_of.all h)
       (others_kept old new (slots_of tree_of.tree) done.rest)
 
@@ -271,14 +282,14 @@ remove_only old queue made before slot after is leads empty =
     subst (IsQueue old made) (rising_without old before slot after is.rising)
     (removed_last old queue (before ++ slot ∷ after) slot (split_has old queue before slot after is) made leads empty)
 
-pub remove_one : (old new : List NodeData) (queue made : QueueData) (link : ℕ) (before : List ℕ) (slot : ℕ) (after : List ℕ)
+pub remove_one : (old new : List NodeData) (queue made : QueueData) (link next : ℕ) (before : List ℕ) (slot : ℕ) (after : List ℕ)
     → IsQueue old queue (before ++ slot ∷ after) → queue.root ≢ 2 * slot → made.root ≡ link
-    → ((tree : Tree) → CanRemove old queue.root slot tree → HasRemoved old new slot link tree)
-    → ((tree : Tree) → IsAt new link tree → (queue.front ≢ slot → queue.front ≡ first_of tree) → made.front ≡ first_of tree)
+    → ((tree : Tree) → CanRemove old queue.root slot tree → HasRemoved old new slot link next tree)
+    → (queue.front ≢ slot → made.front ≡ queue.front) → (queue.front ≡ slot → made.front ≡ next)
     → IsQueue new made (before ++ after)
-remove_one old new queue made link before slot after is other root done front =
+remove_one old new queue made link next before slot after is other root done stays goes =
     let has = split_has old queue before slot after is in
     let removed = done (tree_of old queue (before ++ slot ∷ after) slot has).tree (can_remove old queue (before ++ slot ∷ after) slot has other) in
     subst (IsQueue new made) (rising_without old before slot after is.rising)
-    (removed_queue old queue (before ++ slot ∷ after) slot has new made link removed root
-    (front removed.made removed.found (front_left old queue (before ++ slot ∷ after) slot has new link removed)))
+    (removed_queue old queue (before ++ slot ∷ after) slot has new made link next removed root
+    (front_is_first old queue (before ++ slot ∷ after) slot has new link next made.front removed stays goes))

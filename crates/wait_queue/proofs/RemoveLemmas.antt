@@ -1,6 +1,6 @@
 -- An item that is removed from a tree.
 use Rattle.std.proofs.Common.{◌≡◌, ◌≢◌, ℕ, ◌+◌, ◌*◌, ◌/◌, ◌%◌, ◌<◌, ◌≤◌, ◌⊎◌, inl, inr, Bool, true, false, cond, min, eqb, List, [], ◌∷◌, ◌++◌, length, refl, sym, ◌∙◌, ap, subst, arith}
-use Rattle.std.proofs.lemmas.Bool.{eq-eqb, eqb-true, ne_eqb}
+use Rattle.std.proofs.lemmas.Bool.{cases_eq, eq-eqb, eqb-true, ne_eqb}
 use Rattle.std.proofs.lemmas.List.{append-nil}
 use Rattle.wait_queue.specs.declared.nodes.Fork.{Fork as ForkData}
 use Rattle.wait_queue.specs.declared.nodes.QueueNode.{QueueNode as NodeData}
@@ -77,17 +77,17 @@ without_length nodes slot (x ∷ xs) rising (inr later) =
     let rest = without_length nodes slot xs rising.1 later in omega arith
 
 -- the size and the least estimate of a tree whose item was removed
-removed_size : (old mid : List NodeData) (slot link : ℕ) (part : Tree) → Holds old part → Has (slots_of part) slot
-    → (done : HasRemoved old mid slot link part) → size_of part ≡ size_of done.made + 1
-removed_size old mid slot link part held has done =
+removed_size : (old mid : List NodeData) (slot link next : ℕ) (part : Tree) → Holds old part → Has (slots_of part) slot
+    → (done : HasRemoved old mid slot link next part) → size_of part ≡ size_of done.made + 1
+removed_size old mid slot link next part held has done =
     let count = without_length old slot (slots_of part) (slots_rise old part held) has in
     let same = ap length done.left_out in
     omega (arith, count, same, size_is_length part, size_is_length done.made)
 
-removed_least : (old mid : List NodeData) (slot link : ℕ) (part : Tree) → Has (slots_of part) slot
-    → (done : HasRemoved old mid slot link part)
+removed_least : (old mid : List NodeData) (slot link next : ℕ) (part : Tree) → Has (slots_of part) slot
+    → (done : HasRemoved old mid slot link next part)
     → least_of old part ≡ min (least_of mid done.made) (estimate_of mid slot)
-removed_least old mid slot link part has done =
+removed_least old mid slot link next part has done =
     sym (least_kept old mid part (λ u h. done.rest.same_estimates u))
     ∙ least_more mid done.made part slot
     (λ u h. without_has slot (slots_of part) u (subst (λ xs. Has xs u) done.left_out h)) has
@@ -179,7 +179,13 @@ module _ (old : List NodeData) (link slot : ℕ) (tree : Tree) (found : ForkData
       ∙ ap (without slot) (sym whole_slots)
 
   -- the item is a leaf below the fork, and the other part stays
-  pub remove_left_leaf : key_of old slot < key_of old (link / 2) → found.left ≡ 2 * slot → HasRemoved old old slot found.right tree
+  -- the item is not the first one if it is to the right
+  not_first : key_of old (link / 2) ≤ key_of old slot → first_of tree ≡ slot → ⊥
+  not_first most is_first =
+      apart old at.before at.after at.order slot slot
+      (subst (Has (slots_of at.before)) (sym (ap first_of at.whole) ∙ is_first) (has_first at.before)) (on_the_right most) refl
+
+  pub remove_left_leaf : key_of old slot < key_of old (link / 2) → found.left ≡ 2 * slot → HasRemoved old old slot found.right (link / 2) tree
   remove_left_leaf less is =
       let even : found.left % 2 ≡ 0 = omega arith in
       let half : found.left / 2 ≡ slot = omega arith in
@@ -190,10 +196,11 @@ module _ (old : List NodeData) (link slot : ℕ) (tree : Tree) (found : ForkData
         left_out = left_out_left [] (on_the_left less) (sym (ap (λ t. without slot (slots_of t)) own ∙ without_own slot));
         rest = keeps_none old (slots_of tree);
         head = refl;
+        second = λ _. at.place;
       }
 
-  pub remove_right_leaf : key_of old (link / 2) ≤ key_of old slot → found.right ≡ 2 * slot → HasRemoved old old slot found.left tree
-  remove_right_leaf most is =
+  pub remove_right_leaf : (next : ℕ) → key_of old (link / 2) ≤ key_of old slot → found.right ≡ 2 * slot → HasRemoved old old slot found.left next tree
+  remove_right_leaf next most is =
       let even : found.right % 2 ≡ 0 = omega arith in
       let half : found.right / 2 ≡ slot = omega arith in
       let own : at.after ≡ leaf slot = leaf_at old found.right at.after at.to_right even ∙ ap leaf half in
@@ -204,10 +211,11 @@ module _ (old : List NodeData) (link slot : ℕ) (tree : Tree) (found : ForkData
             ∙ left_out_right [] (on_the_right most) (sym (ap (λ t. without slot (slots_of t)) own ∙ without_own slot));
         rest = keeps_none old (slots_of tree);
         head = refl;
+        second = λ is_first. absurd (not_first most is_first);
       }
 
-  module _ (mid : List NodeData) (left : ℕ) (less : key_of old slot < key_of old (link / 2))
-      (done : HasRemoved old mid slot left at.before) where
+  module _ (mid : List NodeData) (left next : ℕ) (less : key_of old slot < key_of old (link / 2))
+      (done : HasRemoved old mid slot left next at.before) where
     was_left : (u : ℕ) → Has (slots_of done.made) u → Has (slots_of at.before) u
     was_left u h = without_has slot (slots_of at.before) u (subst (λ xs. Has xs u) done.left_out h)
 
@@ -233,8 +241,8 @@ module _ (old : List NodeData) (link slot : ℕ) (tree : Tree) (found : ForkData
         (record { least = found.least; left = left; right = found.right; size = found.size; common = found.common })
         slot done.made at.after
     found_left_less =
-        let size = removed_size old mid slot left at.before at.to_left.held (on_the_left less) done in
-        let least = removed_least old mid slot left at.before (on_the_left less) done in
+        let size = removed_size old mid slot left next at.before at.to_left.held (on_the_left less) done in
+        let least = removed_least old mid slot left next at.before (on_the_left less) done in
         let kept = least_kept old mid at.after (λ u h. done.rest.same_estimates u) in
         record {
           pair = remove_left_pair;
@@ -251,7 +259,7 @@ module _ (old : List NodeData) (link slot : ℕ) (tree : Tree) (found : ForkData
         (sym (read ∙ left_fork)) found_left_less
 
     pub remove_left : (new : List NodeData) (made : ℕ) → KeepsItems mid new (link / 2 ∷ [])
-        → IsAt new made (branch done.made at.after) → HasRemoved old new slot made tree
+        → IsAt new made (branch done.made at.after) → HasRemoved old new slot made next tree
     remove_left new made keeps joined = record {
       made = branch done.made at.after;
       found = joined;
@@ -272,16 +280,20 @@ module _ (old : List NodeData) (link slot : ℕ) (tree : Tree) (found : ForkData
             | inr none ↦ none
           ])
           ∙ done.head);
+      second = λ is_first. done.second (sym (ap first_of at.whole) ∙ is_first);
     }
 
-  module _ (mid : List NodeData) (right place : ℕ) (most : key_of old (link / 2) ≤ key_of old slot)
-      (done : HasRemoved old mid slot right at.after) where
+  module _ (mid : List NodeData) (right next place : ℕ) (most : key_of old (link / 2) ≤ key_of old slot)
+      (done : HasRemoved old mid slot right next at.after) where
     was_right : (u : ℕ) → Has (slots_of done.made) u → Has (slots_of at.after) u
     was_right u h = without_has slot (slots_of at.after) u (subst (λ xs. Has xs u) done.left_out h)
 
     -- the fork stays in its slot unless that is the item's
-    pub same_place : link / 2 ≢ slot → link / 2 ≡ first_of done.made
-    same_place other = at.place ∙ first_left slot done.made at.after done.left_out (λ is. other (at.place ∙ is))
+    pub place_is : (link / 2 ≢ slot → place ≡ link / 2) → (link / 2 ≡ slot → place ≡ next) → place ≡ first_of done.made
+    place_is stays goes = elim (cases_eq (link / 2) slot) [
+      | inl same ↦ goes same ∙ done.second (sym at.place ∙ same)
+      | inr other ↦ stays other ∙ at.place ∙ first_left slot done.made at.after done.left_out (λ is. other (at.place ∙ is))
+    ]
 
     pub remove_right_pair : place ≡ first_of done.made → IsPair mid place found.left right at.before done.made
     remove_right_pair is = record {
@@ -301,8 +313,8 @@ module _ (old : List NodeData) (link slot : ℕ) (tree : Tree) (found : ForkData
         (record { least = found.least; left = found.left; right = right; size = found.size; common = found.common })
         slot at.before done.made
     found_right_less is =
-        let size = removed_size old mid slot right at.after at.to_right.held (on_the_right most) done in
-        let least = removed_least old mid slot right at.after (on_the_right most) done in
+        let size = removed_size old mid slot right next at.after at.to_right.held (on_the_right most) done in
+        let least = removed_least old mid slot right next at.after (on_the_right most) done in
         let kept = least_kept old mid at.before (λ u h. done.rest.same_estimates u) in
         record {
           pair = remove_right_pair is;
@@ -319,7 +331,7 @@ module _ (old : List NodeData) (link slot : ℕ) (tree : Tree) (found : ForkData
         (sym (read ∙ right_fork)) (found_right_less is)
 
     pub remove_right : (new : List NodeData) (made : ℕ) → place ≡ first_of done.made → KeepsItems mid new (place ∷ [])
-        → IsAt new made (branch at.before done.made) → HasRemoved old new slot made tree
+        → IsAt new made (branch at.before done.made) → HasRemoved old new slot made next tree
     remove_right new made is keeps joined = record {
       made = branch at.before done.made;
       found = joined;
@@ -341,4 +353,5 @@ module _ (old : List NodeData) (link slot : ℕ) (tree : Tree) (found : ForkData
           ])
           ∙ done.rest.same_forks (first_of at.before) (λ written.
           apart old at.before at.after at.order (first_of at.before) (first_of at.before) (has_first at.before) written refl));
+      second = λ is_first. absurd (not_first most is_first);
     }

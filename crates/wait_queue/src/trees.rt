@@ -4,24 +4,12 @@ ghost use Rattle.std.specs.Prelude.{◌≡◌, ◌≢◌, ℕ, ◌*◌, ◌/◌,
 ghost use Rattle.std.specs.List.{count_by};
 ghost use Rattle.wait_queue.specs.Nodes.{key_of};
 ghost use Rattle.wait_queue.specs.Queues.{IsOldestWithin};
-ghost use Rattle.wait_queue.specs.Inner.Tree.{IsAt, Tree, first_of, least_of, slots_of};
+ghost use Rattle.wait_queue.specs.Inner.Tree.{IsAt, Tree, least_of, slots_of};
 ghost use Rattle.wait_queue.specs.Inner.Changes.{CanPush, CanRemove, HasPushed, HasRemoved};
 
 use crate::nodes::{
     Fork, QueueNode, common_bits, fork_at, key_at, least_in, make_fork, put_less, put_more, size_in,
 };
-
-/// Returns the first item of a tree.
-pub(crate) fn oldest_in(nodes: &[QueueNode], link: u32) -> u32
-    requires { (tree : Tree) × IsAt nodes.now link tree }
-    ensures { (tree : Tree) → IsAt nodes.now link tree → result ≡ first_of tree }
-{
-    if link % 2 == 0 {
-        return link / 2;
-    }
-    let fork = fork_at(nodes, link / 2);
-    oldest_in(nodes, fork.left)
-}
 
 /// Returns the first item of a tree whose estimate is within a limit, if there is one.
 pub(crate) fn oldest_within_in(nodes: &[QueueNode], link: u32, limit: u64) -> u32
@@ -93,40 +81,42 @@ pub(crate) fn is_leaf_of(link: u32, slot: u32) -> bool
     link as u64 == 2 * slot as u64
 }
 
-/// Returns the first item of a tree of which an item was removed. It was `here`.
-pub(crate) fn place_after(nodes: &[QueueNode], here: u32, right: u32, slot: u32) -> u32
-    requires { (tree : Tree) × IsAt nodes.now right tree }
-    ensures { (tree : Tree) → IsAt nodes.now right tree → (here ≢ slot → here ≡ first_of tree)
-        → result ≡ first_of tree }
+/// Returns the first of some items after one of them was removed. It was `first`, and then came
+/// `next` if that was removed.
+pub(crate) fn first_after(first: u32, next: u32, slot: u32) -> u32
+    ensures stays { first ≢ slot → result ≡ first }
+    ensures goes { first ≡ slot → result ≡ next }
 {
-    if here != slot {
-        return here;
+    if first != slot {
+        return first;
     }
-    oldest_in(nodes, right)
+    next
 }
 
-/// Removes an item of a tree of at least two. Returns the link to the new tree. A fork is read again
-/// after the removal below it, so that no copy of it is kept meanwhile.
-pub(crate) fn remove_in(nodes: &mut [QueueNode], link: u32, slot: u32) -> u32
+/// Removes an item of a tree of at least two. Returns the link to the new tree, and writes its first
+/// item to `next` if the first one was removed. A fork is read again after the removal below it, so
+/// that no copy of it is kept meanwhile.
+pub(crate) fn remove_in(nodes: &mut [QueueNode], link: u32, slot: u32, next: &mut u32) -> u32
     requires { (tree : Tree) × CanRemove nodes.old link slot tree }
     ensures { (tree : Tree) → CanRemove nodes.old link slot tree
-        → HasRemoved nodes.old nodes.new slot result tree }
+        → HasRemoved nodes.old nodes.new slot result next.new tree }
 {
     let here = link / 2;
     let fork = fork_at(nodes, here);
     if key_at(nodes, slot) < key_at(nodes, here) {
         if is_leaf_of(fork.left, slot) {
+            *next = here;
             return fork.right;
         }
-        let left = remove_in(nodes, fork.left, slot);
+        let left = remove_in(nodes, fork.left, slot, next);
         let again = fork_at(nodes, here);
         return put_less(nodes, here, Fork { left, ..again }, slot);
     }
     if is_leaf_of(fork.right, slot) {
         return fork.left;
     }
-    let right = remove_in(nodes, fork.right, slot);
-    let place = place_after(nodes, here, right, slot);
+    let right = remove_in(nodes, fork.right, slot, next);
+    let place = first_after(here, *next, slot);
     let again = fork_at(nodes, here);
     put_less(nodes, place, Fork { right, ..again }, slot)
 }

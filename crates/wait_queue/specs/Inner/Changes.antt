@@ -76,10 +76,11 @@ pub record CanRemove (nodes : List NodeData) (link slot : ℕ) (tree : Tree) : T
   pub one_of : Has (slots_of tree) slot
 
 -- The slot was removed: there is a tree at the new link. The fork in the first slot, which is none of
--- the tree's, stays.
-pub record HasRemoved (old new : List NodeData) (slot link : ℕ) (tree : Tree) : Type 0 where
+-- the tree's, stays. If this slot was removed, the next one is the first.
+pub record HasRemoved (old new : List NodeData) (slot link next : ℕ) (tree : Tree) : Type 0 where
   pub made : Tree
   pub found : IsAt new link made
   pub left_out : slots_of made ≡ without slot (slots_of tree)
   pub rest : KeepsItems old new (slots_of tree)
   pub head : fork_of new (first_of tree) ≡ fork_of old (first_of tree)
+  pub second : first_of tree ≡ slot → next ≡ first_of made

@@ -17,7 +17,7 @@ remove_in-queue-requires c =
 
 pub returns-clause-queue : goal.returns-clause-queue
 returns-clause-queue c = λ before after is.
-    remove_one c.args.nodes.now c.remove_in-queue.new.nodes c.args.queue.now _ c.remove_in-queue.result before c.args.slot after is (c.is_leaf_of.ensures.no c.if-is_leaf_of.false) refl c.remove_in-queue.ensures c.place_after-queue.ensures
+    remove_one c.args.nodes.now c.remove_in-queue.new.nodes c.args.queue.now _ c.remove_in-queue.result c.remove_in-queue.new.next before c.args.slot after is (c.is_leaf_of.ensures.no c.if-is_leaf_of.false) refl c.remove_in-queue.ensures c.first_after-queue.ensures.stays c.first_after-queue.ensures.goes
 
 pub returns-clause-keys : goal.returns-clause-keys
 returns-clause-keys c =
@@ -32,9 +32,4 @@ returns-clause-estimates c =
 pub returns-clause-others : goal.returns-clause-others
 returns-clause-others c = λ slots has other theirs is clear.
     let done = c.remove_in-queue.ensures (tree_of c.args.nodes.now c.args.queue.now slots c.args.slot has).tree (can_remove c.args.nodes.now c.args.queue.now slots c.args.slot has (c.is_leaf_of.ensures.no c.if-is_leaf_of.false)) in
-    queue_kept c.args.nodes.now c.remove_in-queue.new.nodes slots other theirs (removed_others c.args.nodes.now c.args.queue.now slots c.args.slot has c.remove_in-queue.new.nodes c.remove_in-queue.result done) clear is
-
-pub place_after-queue-requires : goal.place_after-queue-requires
-place_after-queue-requires c =
-    let done = c.remove_in-queue.ensures (tree_of c.args.nodes.now c.args.queue.now c.requires.0 c.args.slot c.requires.1).tree (can_remove c.args.nodes.now c.args.queue.now c.requires.0 c.args.slot c.requires.1 (c.is_leaf_of.ensures.no c.if-is_leaf_of.false)) in
-    (done.made, done.found)
+    queue_kept c.args.nodes.now c.remove_in-queue.new.nodes slots other theirs (removed_others c.args.nodes.now c.args.queue.now slots c.args.slot has c.remove_in-queue.new.nodes c.remove_in-queue.result c.remove_in-queue.new.next done) clear is
