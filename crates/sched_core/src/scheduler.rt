@@ -17,7 +17,7 @@ ghost use Rattle.fixed_vec.specs.Spending.{HasWords, Spends};
 ghost use Rattle.sched_core.specs.Shows.{HasNoneTaken, HasSameJobs, IsNextTaken, IsSpent, IsTaken, KeepsGenerations, KeepsOtherJobs, KeepsOthers, ShowsCore, core_words, dim_of, job_arrival, job_generation, job_place, job_ticket, slots_of, submitted_of, time_of};
 
 use crate::assigned::Assigned;
-use crate::small::{beside, without};
+use crate::small::{beside, forget};
 use cube_shape::{MAX_BITMAP_DIM, Region};
 use fixed_vec::Store;
 use sched_blocks::Blocks;
@@ -285,7 +285,7 @@ impl Core {
             → ShowsCore (cancel (job_arrival self.old slot) w) self.new }
     {
         self.jobs.cancel(slot);
-        self.reserved = without(self.reserved, slot);
+        forget(&mut self.reserved, slot);
     }
 
     /// Removes a running job, whose block is vacant then.

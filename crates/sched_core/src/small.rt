@@ -44,17 +44,16 @@ pub(crate) fn is_patient(passed: u64, patience: u32, dim: u32) -> bool
     true
 }
 
-/// Returns the reservation, if it is not that of this slot.
-pub(crate) fn without(kept: Option<Assigned>, slot: u32) -> Option<Assigned>
-    ensures { result ≡ kept_without slot kept }
+/// Ends a reservation, if it is that of this slot.
+pub(crate) fn forget(kept: &mut Option<Assigned>, slot: u32)
+    ensures { kept.new ≡ kept_without slot kept.old }
 {
-    let Some(it) = kept else {
-        return None;
+    let Some(it) = *kept else {
+        return;
     };
     if it.slot == slot {
-        return None;
+        *kept = None;
     }
-    kept
 }
 
 /// Returns whether job `i` comes before job `j` in order.

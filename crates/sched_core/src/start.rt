@@ -15,7 +15,7 @@ ghost use Rattle.sched_core.specs.Inner.{IsHeadSlot, IsPick};
 
 use crate::assigned::{Assigned, Decision};
 use crate::scheduler::Core;
-use crate::small::{end_of, is_patient, without};
+use crate::small::{end_of, forget, is_patient};
 use cube_shape::{MAX_BITMAP_DIM, Region};
 use sched_law::{NEVER, Place};
 
@@ -128,7 +128,7 @@ impl Core {
         let end = end_of(self.time, wait.job.estimate);
         self.blocks.start(block, end);
         self.jobs.start(slot, block, end);
-        self.reserved = without(self.reserved, slot);
+        forget(&mut self.reserved, slot);
     }
 
     // Counts that a job with a block of dimension `k` passes the head.

@@ -15,7 +15,7 @@ returns-clause-shows c = λ w wait k waits sized vacant.
     let at_end : c.end_of-end.result ≡ end_after w.now wait.job.estimate =
     c.end_of-end.ensures ∙ ap (λ (x : SchedWait). end_after c.args.self.now.time x.job.estimate) found ∙ ap (λ (t : ℕ). end_after t wait.job.estimate) (sym k.time) in
     let j = job_arrival c.args.self.now c.args.slot in
-    subst (λ (o : Option Assigned). ShowsCore (start j wait.job c.args.block w) (record c.args.self.now { blocks = c.start.new.self; jobs = c.start-2.new.self; reserved = o })) (sym c.without-self.ensures)
+    subst (λ (o : Option Assigned). ShowsCore (start j wait.job c.args.block w) (record c.args.self.now { blocks = c.start.new.self; jobs = c.start-2.new.self; reserved = o })) (sym c.forget.ensures)
     (start_core w c.args.self.now k c.start-2.new.self c.args.slot c.start-2.ensures.capacity c.start-2.ensures.others c.start.new.self wait c.args.block c.start.ensures.dim_stays waits
     (c.start.ensures.shows w j wait k.machine (slot_waits w c.args.self.now.jobs k.jobs c.args.slot wait waits) vacant sized at_end)
     (c.start-2.ensures.shows w wait k.jobs waits at_end))
