@@ -131,6 +131,7 @@ impl Jobs {
     }
 
     /// Returns the first waiting job in order of those that need at most dimension `most`.
+    #[inline(always)]
     pub fn first(&self, most: u32) -> Option<u32>
         requires { (w : Sched) × ShowsJobs w self.now }
         ensures first { (w : Sched) → ShowsJobs w self.now
@@ -143,6 +144,7 @@ impl Jobs {
 
     /// Returns the first waiting job in order that may pass the head. It needs at most dimension
     /// `any`, or at most `most` and has a known estimate of at most `limit`.
+    #[inline(always)]
     pub fn first_passing(&self, any: Option<u32>, most: Option<u32>, limit: u64) -> Option<u32>
         requires { (w : Sched) × ShowsJobs w self.now }
         ensures first { (w : Sched) → ShowsJobs w self.now
@@ -474,11 +476,11 @@ impl Jobs {
             block,
             end,
         };
-        self.lines.leave(&wait.job, slot);
         put(&mut self.slots, slot, generation, Place::Running(run));
         self.running += 1;
         self.asked += processors_of(&wait.job);
         self.timed += count_known(end);
+        self.lines.leave(&wait.job, slot);
     }
 
     /// Counts that a job with a block of dimension `k` passes a waiting one.

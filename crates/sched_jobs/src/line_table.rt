@@ -128,6 +128,7 @@ impl LineTable {
     }
 
     /// Returns the slot that is wanted, of the first class, with the least key there.
+    #[inline(always)]
     pub(crate) fn first(&self, wanted: &Wanted) -> Option<u32>
         requires { (line : ℕ → Option ℕ) × HasLines self.now line }
         ensures { (line : ℕ → Option ℕ) → HasLines self.now line
