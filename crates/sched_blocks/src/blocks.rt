@@ -294,6 +294,9 @@ impl Blocks {
         if !self.out.has_fit_at(k, lower) {
             return upper;
         }
-        lower + is_earlier(&self.ends, &self.busy, upper, lower) as usize
+        if is_earlier(&self.ends, &self.busy, upper, lower) {
+            return upper;
+        }
+        lower
     }
 }
