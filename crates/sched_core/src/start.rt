@@ -126,8 +126,8 @@ impl Core {
             return;
         };
         let end = end_of(self.time, wait.job.estimate);
-        self.blocks.start(block, end);
         self.jobs.start(slot, block, end);
+        self.blocks.start(block, end);
         forget(&mut self.reserved, slot);
     }
 
