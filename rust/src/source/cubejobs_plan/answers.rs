@@ -1,5 +1,7 @@
 // Made from crates/cubejobs_plan/src/answers.rt by checks/lib/erase.py. Change that file.
 //! How an answer about a job is made.
+//!
+//! An answer is large. These functions are parts of their callers, so that it is written once.
 
 use crate::source::cubejobs_plan::answer::PlanJob;
 use crate::source::cubejobs_plan::codes::DONE;
@@ -41,6 +43,7 @@ pub(crate) fn refused(code: u32) -> PlanJob {
 }
 
 // Makes the answer about a job at a spot.
+#[inline(always)]
 fn answer_of(names: Names, job: SchedJob, spot: Spot) -> PlanJob {
     PlanJob {
         code: DONE,
@@ -58,6 +61,7 @@ fn answer_of(names: Names, job: SchedJob, spot: Spot) -> PlanJob {
 }
 
 // Makes the answer about a running job.
+#[inline(always)]
 fn running(names: Names, run: SchedRun) -> PlanJob {
     let spot = Spot {
         state: RUNS,
@@ -69,6 +73,7 @@ fn running(names: Names, run: SchedRun) -> PlanJob {
 }
 
 // Makes the answer about a waiting job with this forecast.
+#[inline(always)]
 fn waiting(names: Names, job: SchedJob, forecast: Forecast) -> PlanJob {
     if let Forecast::Promised(block, time) = forecast {
         let spot = Spot {
@@ -89,6 +94,7 @@ fn waiting(names: Names, job: SchedJob, forecast: Forecast) -> PlanJob {
 }
 
 // Returns the answer about the job of a slot, with this number of jobs before it.
+#[inline(always)]
 fn described(scheduler: &Scheduler, slot: u32, before: u64) -> PlanJob {
     let names = Names {
         ticket: scheduler.ticket(slot),
@@ -111,6 +117,7 @@ pub(crate) fn listed(scheduler: &Scheduler, slot: u32) -> PlanJob {
 }
 
 // Returns how many waiting jobs come before that of a slot.
+#[inline(always)]
 fn before(scheduler: &Scheduler, slot: u32) -> u64 {
     let Place::Waiting(_) = scheduler.place(slot) else {
         return 0;
@@ -119,6 +126,7 @@ fn before(scheduler: &Scheduler, slot: u32) -> u64 {
 }
 
 // Returns the answer about the job of a slot.
+#[inline(always)]
 pub(crate) fn answer_at(scheduler: &Scheduler, slot: u32) -> PlanJob {
     described(scheduler, slot, before(scheduler, slot))
 }

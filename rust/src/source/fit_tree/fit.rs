@@ -77,16 +77,16 @@ impl FitTree {
         image::is_free(&self.rooms, self.dim, region)
     }
 
-    /// Returns whether a half of a block has a free block of dimension `k`. It is right only if
-    /// the block has one, and takes one step.
+    /// Returns whether a half of a block has a free block of dimension `k`. The half is that of a
+    /// node. It is right only if the block has one, and takes one step.
     ///
     /// # Clauses of the proved source
     ///
-    /// - requires half: `IsAligned self.now.dim half`
-    /// - requires dim: `k ≤ half.dim`
-    /// - ensures: `(whole : HeldRegion) → IsAligned self.now.dim whole → IsHalfOf whole half → HasFitIn self.now.dim k (held_in self.now) whole → IsTrue result ↔ HasFitIn self.now.dim k (held_in self.now) half`
-    pub fn has_fit_in(&self, k: u32, half: Region) -> bool {
-        image::has_fit_in(&self.rooms, self.dim, k, half)
+    /// - requires dim: `k ≤ self.now.dim`
+    /// - requires node: `node < 2 ^ (self.now.dim + 1)`
+    /// - ensures: `(whole half : HeldRegion) → IsNodeOf self.now.dim node half → k ≤ half.dim → IsAligned self.now.dim whole → IsHalfOf whole half → HasFitIn self.now.dim k (held_in self.now) whole → IsTrue result ↔ HasFitIn self.now.dim k (held_in self.now) half`
+    pub fn has_fit_at(&self, k: u32, node: usize) -> bool {
+        image::has_fit_at(&self.rooms, self.dim, k, node)
     }
 
     /// Returns whether a block is held as one block.

@@ -247,9 +247,10 @@ pub fn is_free(rooms: &[u8], n: u32, region: Region) -> bool {
     walks::is_open(rooms, n, region.dim, node_of(n, region))
 }
 
-/// Returns whether a half of a block has a free block of dimension `k`, if the block has one.
-pub(crate) fn has_fit_in(rooms: &[u8], n: u32, k: u32, half: Region) -> bool {
-    if rooms[node_of(n, half)] < k as u8 + 2 {
+/// Returns whether a half of a block has a free block of dimension `k`, if the block has one. The
+/// half is that of a node.
+pub(crate) fn has_fit_at(rooms: &[u8], n: u32, k: u32, node: usize) -> bool {
+    if rooms[node] < k as u8 + 2 {
         return false;
     }
     true

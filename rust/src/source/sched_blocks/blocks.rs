@@ -1,7 +1,7 @@
 // Made from crates/sched_blocks/src/blocks.rt by checks/lib/erase.py. Change that file.
 //! The blocks of a scheduler as a value.
 
-use crate::source::sched_blocks::nodes::{lower, node_of, note_idle, note_use, upper};
+use crate::source::sched_blocks::nodes::{block_of, node_of, note_idle, note_use};
 use crate::source::block_trees::{end_at, is_earlier, open};
 use crate::source::cube_shape::{MAX_BITMAP_DIM, Region};
 use crate::source::fit_tree::FitTree;
@@ -222,14 +222,11 @@ impl Blocks {
     /// - ensures dim: `result.dim ≡ k`
     /// - ensures chosen: `(w : Sched) → Shows w self.now → HasUsable w k → Chooses w k (block w.dim 0) result`
     pub fn choose(&self, k: u32) -> Region {
-        let mut part = Region {
-            base: 0,
-            dim: self.dim,
-        };
+        let mut node = 1;
         for _ in k..self.dim {
-            part = self.better_half(k, part);
+            node = self.better_child(k, node);
         }
-        part
+        block_of(self.dim, k, node)
     }
 
     /// Returns how many processors jobs hold.
@@ -251,19 +248,17 @@ impl Blocks {
         self.out.held_processors()
     }
 
-    // Returns the half of a part of the machine in which the block to reserve is.
-    fn better_half(&self, k: u32, part: Region) -> Region {
-        let lower = lower(part);
-        let upper = upper(self.dim, part);
-        if !self.out.has_fit_in(k, upper) {
+    // Returns the child of a node in which the block to reserve is.
+    fn better_child(&self, k: u32, node: usize) -> usize {
+        let lower = 2 * node;
+        let upper = lower + 1;
+        if !self.out.has_fit_at(k, upper) {
             return lower;
         }
-        if !self.out.has_fit_in(k, lower) {
+        if !self.out.has_fit_at(k, lower) {
             return upper;
         }
-        let low = node_of(self.dim, lower);
-        let high = node_of(self.dim, upper);
-        if is_earlier(&self.ends, &self.busy, high, low) {
+        if is_earlier(&self.ends, &self.busy, upper, lower) {
             return upper;
         }
         lower

@@ -10,19 +10,11 @@ pub(crate) fn node_of(n: u32, region: Region) -> usize {
     (1 << (n - region.dim)) + (region.base >> region.dim) as usize
 }
 
-/// Returns the lower half of a block.
-pub(crate) fn lower(region: Region) -> Region {
+/// Returns the block of a node of dimension `k`.
+pub(crate) fn block_of(n: u32, k: u32, node: usize) -> Region {
     Region {
-        base: region.base,
-        dim: region.dim - 1,
-    }
-}
-
-/// Returns the upper half of a block.
-pub(crate) fn upper(n: u32, region: Region) -> Region {
-    Region {
-        base: region.base + (1 << (region.dim - 1)),
-        dim: region.dim - 1,
+        base: ((node - (1 << (n - k))) << k) as u64,
+        dim: k,
     }
 }
 

@@ -2,7 +2,7 @@
 //! The scheduler as a value, and the calls that start nothing.
 
 use crate::source::sched_core::assigned::Assigned;
-use crate::source::sched_core::small::{beside, without};
+use crate::source::sched_core::small::{beside, forget};
 use crate::source::cube_shape::{MAX_BITMAP_DIM, Region};
 use crate::source::kit::fixed_vec::Store;
 use crate::source::sched_blocks::Blocks;
@@ -144,7 +144,7 @@ impl Core {
     /// Removes a waiting job. A block that was reserved for it is so no more.
     pub(crate) fn cancel(&mut self, slot: u32) {
         self.jobs.cancel(slot);
-        self.reserved = without(self.reserved, slot);
+        forget(&mut self.reserved, slot);
     }
 
     /// Removes a running job, whose block is vacant then.

@@ -29,15 +29,14 @@ pub(crate) fn is_patient(passed: u64, patience: u32, dim: u32) -> bool {
     true
 }
 
-/// Returns the reservation, if it is not that of this slot.
-pub(crate) fn without(kept: Option<Assigned>, slot: u32) -> Option<Assigned> {
-    let Some(it) = kept else {
-        return None;
+/// Ends a reservation, if it is that of this slot.
+pub(crate) fn forget(kept: &mut Option<Assigned>, slot: u32) {
+    let Some(it) = *kept else {
+        return;
     };
     if it.slot == slot {
-        return None;
+        *kept = None;
     }
-    kept
 }
 
 /// Returns whether job `i` comes before job `j` in order.

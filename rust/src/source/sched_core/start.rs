@@ -3,7 +3,7 @@
 
 use crate::source::sched_core::assigned::{Assigned, Decision};
 use crate::source::sched_core::scheduler::Core;
-use crate::source::sched_core::small::{end_of, is_patient, without};
+use crate::source::sched_core::small::{end_of, forget, is_patient};
 use crate::source::cube_shape::{MAX_BITMAP_DIM, Region};
 use crate::source::sched_law::{NEVER, Place};
 
@@ -80,9 +80,9 @@ impl Core {
             return;
         };
         let end = end_of(self.time, wait.job.estimate);
-        self.blocks.start(block, end);
         self.jobs.start(slot, block, end);
-        self.reserved = without(self.reserved, slot);
+        self.blocks.start(block, end);
+        forget(&mut self.reserved, slot);
     }
 
     // Counts that a job with a block of dimension `k` passes the head.

@@ -127,6 +127,7 @@ impl Jobs {
     }
 
     /// Returns the first waiting job in order of those that need at most dimension `most`.
+    #[inline(always)]
     ///
     /// # Clauses of the proved source
     ///
@@ -139,6 +140,7 @@ impl Jobs {
 
     /// Returns the first waiting job in order that may pass the head. It needs at most dimension
     /// `any`, or at most `most` and has a known estimate of at most `limit`.
+    #[inline(always)]
     ///
     /// # Clauses of the proved source
     ///
@@ -415,11 +417,11 @@ impl Jobs {
             block,
             end,
         };
-        self.lines.leave(&wait.job, slot);
         put(&mut self.slots, slot, generation, Place::Running(run));
         self.running += 1;
         self.asked += processors_of(&wait.job);
         self.timed += count_known(end);
+        self.lines.leave(&wait.job, slot);
     }
 
     /// Counts that a job with a block of dimension `k` passes a waiting one.

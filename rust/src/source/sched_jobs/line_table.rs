@@ -80,6 +80,7 @@ impl LineTable {
     }
 
     /// Returns the slot that is wanted, of the first class, with the least key there.
+    #[inline(always)]
     pub(crate) fn first(&self, wanted: &Wanted) -> Option<u32> {
         first_of_all(&self.nodes, &self.queues, &self.counts, wanted)
     }

@@ -103,6 +103,7 @@ fn first_if_used(
 }
 
 /// Returns the slot that is wanted, of the first class, with the least key there.
+#[inline(always)]
 pub(crate) fn first_of_all(
     nodes: &[QueueNode],
     queues: &[Queue],

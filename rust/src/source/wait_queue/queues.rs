@@ -2,7 +2,7 @@
 //! Queues.
 
 use crate::source::wait_queue::nodes::{MAX_SLOTS, NO_LINK, QueueNode, least_in, put_item, size_in};
-use crate::source::wait_queue::trees::{count_in, is_leaf_of, oldest_within_in, place_after, push_in, remove_in};
+use crate::source::wait_queue::trees::{count_in, first_after, is_leaf_of, oldest_within_in, push_in, remove_in};
 
 /// A queue of items, which are slots of a slice of nodes.
 #[derive(Clone, Copy)]
@@ -128,8 +128,9 @@ pub fn remove(nodes: &mut [QueueNode], queue: &mut Queue, slot: u32) {
         queue.root = NO_LINK;
         return;
     }
-    queue.root = remove_in(nodes, queue.root, slot);
-    queue.front = place_after(nodes, queue.front, queue.root, slot);
+    let mut next = slot;
+    queue.root = remove_in(nodes, queue.root, slot, &mut next);
+    queue.front = first_after(queue.front, next, slot);
 }
 
 /// Says that a queue stays as it is if the nodes of its items do. A slice may get longer.

@@ -5,15 +5,6 @@ use crate::source::wait_queue::nodes::{
     Fork, QueueNode, common_bits, fork_at, key_at, least_in, make_fork, put_less, put_more, size_in,
 };
 
-/// Returns the first item of a tree.
-pub(crate) fn oldest_in(nodes: &[QueueNode], link: u32) -> u32 {
-    if link % 2 == 0 {
-        return link / 2;
-    }
-    let fork = fork_at(nodes, link / 2);
-    oldest_in(nodes, fork.left)
-}
-
 /// Returns the first item of a tree whose estimate is within a limit, if there is one.
 pub(crate) fn oldest_within_in(nodes: &[QueueNode], link: u32, limit: u64) -> u32 {
     if link % 2 == 0 {
@@ -62,32 +53,38 @@ pub(crate) fn push_in(nodes: &mut [QueueNode], link: u32, slot: u32) -> u32 {
 
 /// Returns whether a link leads to the leaf of a slot.
 pub(crate) fn is_leaf_of(link: u32, slot: u32) -> bool {
-    link % 2 == 0 && link / 2 == slot
+    link as u64 == 2 * slot as u64
 }
 
-/// Returns the first item of a tree of which an item was removed. It was `here`.
-pub(crate) fn place_after(nodes: &[QueueNode], here: u32, right: u32, slot: u32) -> u32 {
-    if here != slot {
-        return here;
+/// Returns the first of some items after one of them was removed. It was `first`, and then came
+/// `next` if that was removed.
+pub(crate) fn first_after(first: u32, next: u32, slot: u32) -> u32 {
+    if first != slot {
+        return first;
     }
-    oldest_in(nodes, right)
+    next
 }
 
-/// Removes an item of a tree of at least two. Returns the link to the new tree.
-pub(crate) fn remove_in(nodes: &mut [QueueNode], link: u32, slot: u32) -> u32 {
+/// Removes an item of a tree of at least two. Returns the link to the new tree, and writes its first
+/// item to `next` if the first one was removed. A fork is read again after the removal below it, so
+/// that no copy of it is kept meanwhile.
+pub(crate) fn remove_in(nodes: &mut [QueueNode], link: u32, slot: u32, next: &mut u32) -> u32 {
     let here = link / 2;
     let fork = fork_at(nodes, here);
     if key_at(nodes, slot) < key_at(nodes, here) {
         if is_leaf_of(fork.left, slot) {
+            *next = here;
             return fork.right;
         }
-        let left = remove_in(nodes, fork.left, slot);
-        return put_less(nodes, here, Fork { left, ..fork }, slot);
+        let left = remove_in(nodes, fork.left, slot, next);
+        let again = fork_at(nodes, here);
+        return put_less(nodes, here, Fork { left, ..again }, slot);
     }
     if is_leaf_of(fork.right, slot) {
         return fork.left;
     }
-    let right = remove_in(nodes, fork.right, slot);
-    let place = place_after(nodes, here, right, slot);
-    put_less(nodes, place, Fork { right, ..fork }, slot)
+    let right = remove_in(nodes, fork.right, slot, next);
+    let place = first_after(here, *next, slot);
+    let again = fork_at(nodes, here);
+    put_less(nodes, place, Fork { right, ..again }, slot)
 }
