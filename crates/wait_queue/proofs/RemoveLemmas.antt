@@ -178,13 +178,13 @@ module _ (old : List NodeData) (link slot : ℕ) (tree : Tree) (found : ForkData
       ∙ sym (without_append slot (slots_of at.before) (slots_of at.after))
       ∙ ap (without slot) (sym whole_slots)
 
-  -- the item is a leaf below the fork, and the other part stays
   -- the item is not the first one if it is to the right
   not_first : key_of old (link / 2) ≤ key_of old slot → first_of tree ≡ slot → ⊥
   not_first most is_first =
       apart old at.before at.after at.order slot slot
       (subst (Has (slots_of at.before)) (sym (ap first_of at.whole) ∙ is_first) (has_first at.before)) (on_the_right most) refl
 
+  -- the item is a leaf below the fork, and the other part stays
   pub remove_left_leaf : key_of old slot < key_of old (link / 2) → found.left ≡ 2 * slot → HasRemoved old old slot found.right (link / 2) tree
   remove_left_leaf less is =
       let even : found.left % 2 ≡ 0 = omega arith in

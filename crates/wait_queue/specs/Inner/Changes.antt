@@ -75,8 +75,8 @@ pub record CanRemove (nodes : List NodeData) (link slot : ℕ) (tree : Tree) : T
   pub forked : link % 2 ≡ 1
   pub one_of : Has (slots_of tree) slot
 
--- The slot was removed: there is a tree at the new link. The fork in the first slot, which is none of
--- the tree's, stays. If this slot was removed, the next one is the first.
+-- The slot was removed: there is a tree at the new link. The fork in the first slot, which is none
+-- of the tree's, stays. If the first slot was removed, `next` is the first one of what is left.
 pub record HasRemoved (old new : List NodeData) (slot link next : ℕ) (tree : Tree) : Type 0 where
   pub made : Tree
   pub found : IsAt new link made

@@ -2,6 +2,7 @@
 use Rattle.std.proofs.Common.{◌+◌, ◌*◌, ◌^◌, ◌≤◌, refl, sym, ◌∙◌, subst, arith}
 use Rattle.std.proofs.lemmas.Bool.{true≢false}
 use Rattle.std.proofs.Math.Pow.{pow_mono}
+use Rattle.cube_shape.specs.declared.limits.TheConstants.{MAX_BITMAP_DIM}
 use Rattle.cube_shape.specs.Node.{IsNodeOf}
 use Rattle.sched_blocks.specs.Layout.{Layout}
 use Rattle.sched_blocks.specs.Shows.{Shows}
@@ -11,11 +12,11 @@ use Rattle.sched_blocks.proofs.blocks.Blocks.better_child.Goals as goal
 
 pub overflow_mul-lower : goal.overflow_mul-lower
 overflow_mul-lower c =
-    let most : 2 ^ c.args.self.now.dim ≤ 2 ^ 20 = pow_mono c.requires.machine in omega (arith, most, c.requires.node)
+    let most : 2 ^ c.args.self.now.dim ≤ 2 ^ MAX_BITMAP_DIM = pow_mono c.requires.machine in omega (arith, most, c.requires.node)
 
 pub overflow_add-upper : goal.overflow_add-upper
 overflow_add-upper c =
-    let most : 2 ^ c.args.self.now.dim ≤ 2 ^ 20 = pow_mono c.requires.machine in omega (arith, most, c.requires.node)
+    let most : 2 ^ c.args.self.now.dim ≤ 2 ^ MAX_BITMAP_DIM = pow_mono c.requires.machine in omega (arith, most, c.requires.node)
 
 pub returns-then-not-has_fit_at-clause-goes : goal.returns-then-not-has_fit_at-clause-goes
 returns-then-not-has_fit_at-clause-goes c = λ w part half shows named of_half less has.
