@@ -476,6 +476,7 @@ impl Jobs {
             block,
             end,
         };
+        // The slot is written first, so that no copy of the job is kept while it leaves its line.
         put(&mut self.slots, slot, generation, Place::Running(run));
         self.running += 1;
         self.asked += processors_of(&wait.job);

@@ -1,4 +1,6 @@
 //! The first of the waiting jobs, by their queues.
+//!
+//! A search is a part of its callers, since each of them leaves out some of its cases.
 
 ghost use Rattle.std.specs.Prelude.{◌≡◌, ℕ, ◌+◌, ◌*◌, ◌<◌, ◌≤◌, List, Option, Some, None, IfSome, IfNone, IsFalse, IsTrue, length};
 ghost use Rattle.sched_law.specs.declared.job.SchedJob.{SchedJob as JobData};

@@ -80,6 +80,7 @@ impl Core {
             return;
         };
         let end = end_of(self.time, wait.job.estimate);
+        // This needs no block, so a processor may do it while it still looks for the block.
         self.jobs.start(slot, block, end);
         self.blocks.start(block, end);
         forget(&mut self.reserved, slot);

@@ -1,5 +1,7 @@
 // Made from crates/sched_jobs/src/search.rt by checks/lib/erase.py. Change that file.
 //! The first of the waiting jobs, by their queues.
+//!
+//! A search is a part of its callers, since each of them leaves out some of its cases.
 
 use crate::source::sched_jobs::lines::{CLASSES, DIMS, first_in_line, first_within, key_at};
 use crate::source::cube_shape::MAX_BITMAP_DIM;

@@ -56,8 +56,8 @@ pub(crate) fn is_leaf_of(link: u32, slot: u32) -> bool {
     link as u64 == 2 * slot as u64
 }
 
-/// Returns the first of some items after one of them was removed. It was `first`, and then came
-/// `next` if that was removed.
+/// Returns the first item after one was removed: the first one so far, or the next one if it was
+/// removed.
 pub(crate) fn first_after(first: u32, next: u32, slot: u32) -> u32 {
     if first != slot {
         return first;
@@ -65,9 +65,9 @@ pub(crate) fn first_after(first: u32, next: u32, slot: u32) -> u32 {
     next
 }
 
-/// Removes an item of a tree of at least two. Returns the link to the new tree, and writes its first
-/// item to `next` if the first one was removed. A fork is read again after the removal below it, so
-/// that no copy of it is kept meanwhile.
+/// Removes an item of a tree of at least two. Returns the link to the new tree. If the first item
+/// was removed, it writes the new first one to `next`. A fork is read again after the removal below
+/// it, so that no copy of it is kept meanwhile.
 pub(crate) fn remove_in(nodes: &mut [QueueNode], link: u32, slot: u32, next: &mut u32) -> u32 {
     let here = link / 2;
     let fork = fork_at(nodes, here);
