@@ -58,7 +58,7 @@ def helpers(room):
     made = []
     for name in ("heap", "os"):
         words = [f"{kit().KIT}/toolchain/bin/clang", f"--target={TRIPLE}", "-O2", "-fPIC", "-ffreestanding", "-Wall",
-                 "-Werror", "-c", path("checks", "built", f"aarch64_{name}.c"), "-o", f"{room}/{name}.o"]
+                 "-Werror", "-c", path("tests/c", f"aarch64_{name}.c"), "-o", f"{room}/{name}.o"]
         subprocess.run(words, check=True)
         made.append(f"{room}/lib{name}.a")
         subprocess.run([f"{kit().KIT}/toolchain/bin/llvm-ar", "rcsD", made[-1], f"{room}/{name}.o"], check=True)

@@ -29,7 +29,7 @@ from checks.lib.repository import path, read, write
 from checks.lib.rows import Row, Skipped, answer, must, run_rows
 
 CALLS, MANY, ROUNDS, SECONDS = 100_000, 1_000_000, 16_000, 1800
-PROGRAM, RACE, RELEASE = "checks/built/beside.rs", "checks/built/race.rs", "release/linux-x86_64"
+PROGRAM, RACE, RELEASE = "tests/rust/beside.rs", "tests/rust/race.rs", "release/linux-x86_64"
 WORDS = ["--edition", "2021", "-Coverflow-checks=on", "-Cdebug-assertions=on", "-O"]
 FEATURES = [f'--cfg=feature="{it}"' for it in ("lanes", "plan", "regions", "sched", "std")]
 
@@ -44,14 +44,14 @@ TARGETS = (
 
 
 # The self-test in WebAssembly. A toolchain of Debian has no linker of its own.
-SELF_TEST, WASM = "checks/built/selftest.rs", "wasm32-unknown-unknown"
+SELF_TEST, WASM = "tests/rust/selftest.rs", "wasm32-unknown-unknown"
 WASM_LINKERS = ("wasm-ld", "wasm-ld-19")
 RUN_WASM = """import { readFileSync } from "node:fs";
 const { instance } = await WebAssembly.instantiate(readFileSync(process.argv[1]), {});
 console.log(BigInt.asUintN(64, instance.exports.selftest()).toString());"""
 
 # The driver, what it uses, and how many steps its interpreter makes at most.
-DRIVER, STEPS = "checks/built/driver", 5 * 10**9
+DRIVER, STEPS = "tests/driver", 5 * 10**9
 USED = "bitmap_occupancy bitmap_tree collectives cube_shape cubejobs_fit fit_tree job_lanes rank_steps wake_calls"
 
 

@@ -126,7 +126,7 @@ def must_be_seen(room, program, warning):
     raise Wrong(f"status {status}, and no {b' or '.join(warnings).decode()}: {(out + said).decode(errors='replace')[-500:]}")
 
 
-CALLS = "checks/built/{}_calls.c".format
+CALLS = "tests/c/{}_calls.c".format
 HELGRIND = ["valgrind", "--tool=helgrind", "--quiet", "--error-exitcode=9"]
 MARKED = ["-DCUBEJOBS_HELGRIND"]
 CONDITION = "-DCUBEJOBS_EVENT_CONDITION"
@@ -147,7 +147,7 @@ def programs(longer):
     """Yields the programs that must end well."""
     for compiler in (CHECKED, CXX):
         yield Program(CALLS("fit"), [FIT], compiler, words=[str(100_000 * min(longer, 10))])
-        yield Program("checks/built/fit_kills.c", [FIT], compiler, words=["1000", "20000"] if longer > 1 else [])
+        yield Program("tests/c/fit_kills.c", [FIT], compiler, words=["1000", "20000"] if longer > 1 else [])
         yield Program("examples/fit.c", [FIT], compiler, shown="examples/fit.out")
         yield Program(CALLS("rounds"), [ROUNDS], compiler)
         yield Program("examples/rounds.c", [ROUNDS], compiler, shown="examples/rounds.out")
@@ -161,18 +161,18 @@ WRONG_FIT = (
     ("a release of a part succeeds", CALLS("fit"), b": release"),
     ("a split loses a half", CALLS("fit"), b"fit_calls.c:"),
     ("a repair does nothing", CALLS("fit"), b"the image after a repair"),
-    ("a repair of what a process has left does nothing", "checks/built/fit_kills.c", b"happened in part"),
+    ("a repair of what a process has left does nothing", "tests/c/fit_kills.c", b"happened in part"),
     ("an attach accepts each image", CALLS("fit"), b"attach accepts"),
     ("a count is not updated", CALLS("fit"), b"free blocks"),
-    ("a split holds nothing for a moment", "checks/built/fit_kills.c", b"happened in part"),
-    ("a join holds nothing for a moment", "checks/built/fit_kills.c", b"happened in part"),
+    ("a split holds nothing for a moment", "tests/c/fit_kills.c", b"happened in part"),
+    ("a join holds nothing for a moment", "tests/c/fit_kills.c", b"happened in part"),
 )
 
 
 def rows_of_fit(room):
     """Yields the wrong libraries of first fit, which the programs must see."""
     for number, (what, source, said) in enumerate(WRONG_FIT, 1):
-        shim = [f"-DWRONG={number}", "-xc", path("checks/built/wrong_fit.c"), "-xnone", f"-Wl,{WRAPPED_FIT}"]
+        shim = [f"-DWRONG={number}", "-xc", path("tests/c/wrong_fit.c"), "-xnone", f"-Wl,{WRAPPED_FIT}"]
         words = ["2000", "500"] if source == CALLS("fit") else []
         yield Row(what, must_be_seen, (room, Program(source, [FIT], C, shim, words), said))
 
@@ -202,12 +202,12 @@ def programs_of_regions(longer, seconds):
         yield Program(CALLS("deadline"), [REGIONS], compiler, flags, [str(625 * longer)])
     yield Program(CALLS("deadline"), [REGIONS], RACES, words=[str(100 * longer)], placed=PLACED)
     yield Program(CALLS("check"), [REGIONS], [*C, misuse.CHECK], CHECKER, [str(min(100_000 * longer, 1_000_000))])
-    yield Program("checks/built/regions_memory.c", [REGIONS], C, OWN_MALLOC)
-    yield Program("checks/built/regions_fork.c", [REGIONS], CHECKED, OWN_MALLOC, [str(100_000 * longer)])
+    yield Program("tests/c/regions_memory.c", [REGIONS], C, OWN_MALLOC)
+    yield Program("tests/c/regions_fork.c", [REGIONS], CHECKED, OWN_MALLOC, [str(100_000 * longer)])
     for name in ("regions", "arena", "wait"):
         yield Program(f"examples/{name}.c", [REGIONS], shown=f"examples/{name}.out")
     for compiler in (CHECKED, [*C, CONDITION]):
-        yield Program("checks/built/wait_order.c", [REGIONS], compiler)
+        yield Program("tests/c/wait_order.c", [REGIONS], compiler)
     yield Program("examples/blocks.cpp", [REGIONS, FIT], CXX, shown="examples/blocks.out")
     yield Program(CALLS("arena"), [REGIONS])
 
@@ -233,20 +233,20 @@ def rows_of_lanes(room, longer):
         placed = PLACED if compiler in (RACES, CLANG) else ()
         program = Program(CALLS("asleep"), [LANES], compiler, words=[str(jobs * longer)], placed=placed)
         yield Row(" ".join(["workers that sleep by", *placed, *compiler]), must_run, (room, program))
-    memory = Program("checks/built/lanes_memory.c", [LANES], C, OWN_MALLOC)
+    memory = Program("tests/c/lanes_memory.c", [LANES], C, OWN_MALLOC)
     yield Row("the memory of the lanes", must_run, (room, memory))
     yield Row("examples/lanes.c", must_run, (room, Program("examples/lanes.c", [LANES], shown="examples/lanes.out")))
     race = Program(CALLS("lanes"), [LANES], RACES, ["-DUNGUARDED"], ["500"], PLACED)
     yield Row("a race beside a job is seen", must_be_seen, (room, race, b"WARNING: ThreadSanitizer: data race"))
     for number, (what, said) in enumerate(WRONG_LANES, 1):
-        shim = [f"-DWRONG={number}", "-xc", path("checks/built/wrong_lanes.c"), "-xnone", f"-Wl,{WRAPPED_LANES}"]
+        shim = [f"-DWRONG={number}", "-xc", path("tests/c/wrong_lanes.c"), "-xnone", f"-Wl,{WRAPPED_LANES}"]
         yield Row(what, must_be_seen, (room, Program(CALLS("lanes"), [LANES], C, shim, ["2000"]), said))
     marked = Program(CALLS("lanes"), [LANES], C, MARKED, ["100"], HELGRIND)
     yield Row("helgrind sees no race between jobs", must_run, (room, marked))
 
 
-SCHED_CALLS, SCHED_RANDOM = CALLS("sched"), "checks/built/sched_random.c"
-SCHED_OWNERS = "checks/built/sched_owners.cpp"
+SCHED_CALLS, SCHED_RANDOM = CALLS("sched"), "tests/c/sched_random.c"
+SCHED_OWNERS = "tests/c/sched_owners.cpp"
 WRAPPED_SCHED = ",".join(f"--wrap=cubejobs_sched_try_{it}" for it in (
     "submit", "cancel", "worker", "next", "give_up", "done", "leave", "lost", "occupy", "vacate", "close", "rest", "settle",
     "forecast", "counts"))
@@ -267,7 +267,7 @@ WRONG_SCHED = (
 
 def shim_of_sched(number):
     """Returns what links a wrong library of the scheduler, or with 0 one in which another thread often has the turn."""
-    return [f"-DWRONG={number}", "-xc", path("checks/built/wrong_sched.c"), "-xnone", f"-Wl,{WRAPPED_SCHED},--wrap=syscall"]
+    return [f"-DWRONG={number}", "-xc", path("tests/c/wrong_sched.c"), "-xnone", f"-Wl,{WRAPPED_SCHED},--wrap=syscall"]
 
 
 def long_programs_of_sched(seconds):
@@ -293,7 +293,7 @@ def programs_of_sched(longer, seconds):
             # MemorySanitizer does not see what a call of the library itself writes.
             if compiler is not CLANG or words != "one":
                 yield Program(source, [SCHED], compiler, words=words.split(), placed=placed)
-    yield Program("checks/built/sched_memory.c", [SCHED], C, OWN_MALLOC)
+    yield Program("tests/c/sched_memory.c", [SCHED], C, OWN_MALLOC)
     for compiler in (CHECKED, RACES, CXX):
         placed = PLACED if compiler is RACES else ()
         yield Program("examples/sched.c", [SCHED], compiler, placed=placed, shown="examples/sched.out")
@@ -350,7 +350,7 @@ def rows_of_waits(room):
         library, words = (LANES if name in OF_LANES_THAT_SLEEP else REGIONS), OF_LANES_THAT_SLEEP.get(name, ["2000"])
         shim = wait_faults.shim(5) if name == "sleep_calls" else ()
         compiler, flags = [*C, f"-I{room}/fault{number}"], ["-DPATIENCE=3", *shim]
-        program = Program(f"checks/built/{name}.c", [library], compiler, flags, words)
+        program = Program(f"tests/c/{name}.c", [library], compiler, flags, words)
         yield Row(what, must_be_seen, (room, program, said))
     unlike(room, "cancelled", "cubejobs_wait.h", *wait_faults.CANCELLED)
     compiler = [*C, CONDITION, f"-I{room}/cancelled"]
@@ -359,7 +359,7 @@ def rows_of_waits(room):
     for number, (name, what, old, new, said) in enumerate(wait_faults.OF_OWNERS):
         unlike(room, f"owners{number}", "cubejobs.hpp", old, new)
         compiler, flags = [*CXX_20, f"-I{room}/owners{number}"], ["-DOWNERS", "-DPATIENCE=3"]
-        program = Program(f"checks/built/{name}.c", [LANES], compiler, flags, OF_LANES_THAT_SLEEP[name])
+        program = Program(f"tests/c/{name}.c", [LANES], compiler, flags, OF_LANES_THAT_SLEEP[name])
         yield Row(f"owners of lanes: {what}", must_be_seen, (room, program, said))
     for number, (what, said) in enumerate(wait_faults.OF_A_LIBRARY, 1):
         program = Program(CALLS("sleep"), [LANES], C, ["-DPATIENCE=3", *wait_faults.shim(number)], ["2000"])
@@ -369,10 +369,10 @@ def rows_of_waits(room):
 def rows_of_owners(room):
     """Yields the owners of C++, and the batch scheduler."""
     for compiler in ([*CXX, *ADDRESSES], CXX_17, [*CXX_20, *ADDRESSES], CLANG_20, RACES_20):
-        placed, name = PLACED if compiler is RACES_20 else (), "checks/built/owners_calls.cpp"
+        placed, name = PLACED if compiler is RACES_20 else (), "tests/c/owners_calls.cpp"
         program = Program(name, [REGIONS, FIT, PLAN, LANES], [*compiler, MOVES], placed=placed)
         yield Row(" ".join([name, "by", *placed, *compiler]), must_run, (room, program))
-        program = Program("checks/built/owners_codes.cpp", program.libraries, [*compiler, "-fno-exceptions"], placed=placed)
+        program = Program("tests/c/owners_codes.cpp", program.libraries, [*compiler, "-fno-exceptions"], placed=placed)
         yield Row(" ".join([program.source, "by", *placed, *program.compiler]), must_run, (room, program))
         program = Program("examples/lanes.cpp", [LANES], compiler, placed=placed, shown="examples/lanes.out")
         yield Row(" ".join([program.source, "by", *placed, *compiler]), must_run, (room, program))
@@ -397,7 +397,7 @@ def rows_of_sleepers(room, longer):
         program = Program(CALLS("room"), [LANES], compiler, words=[str(100 * longer)], placed=placed)
         yield Row(" ".join(["sleeping submits by", *placed, *compiler]), must_run, (room, program))
     for compiler, flags in ((CHECKED, ()), ([*C, CONDITION], ()), (CXX_20, ["-DOWNERS"])):
-        program = Program("checks/built/look_order.c", [LANES], compiler, flags)
+        program = Program("tests/c/look_order.c", [LANES], compiler, flags)
         yield Row(" ".join(["scripted orders of lanes by", *compiler, *flags]), must_run, (room, program))
 
 
@@ -428,10 +428,10 @@ def rows_of_regions(room, longer, seconds):
     yield Row("a race beside a block is seen", must_be_seen, (room, race, b"WARNING: ThreadSanitizer: data race"))
     unmarked = Program(CALLS("regions"), [REGIONS], [*CLANG, f"-I{room}/unmarked"], [], ["20"], PLACED)
     yield Row("a block that is not written is seen", must_be_seen, (room, unmarked, b"WARNING: MemorySanitizer"))
-    separate = Program("checks/built/regions_fork.c", [REGIONS], C, [*OWN_MALLOC, "-DSEPARATE"])
+    separate = Program("tests/c/regions_fork.c", [REGIONS], C, [*OWN_MALLOC, "-DSEPARATE"])
     yield Row("processes with a machine each are seen", must_be_seen, (room, separate, b"a processor has two owners"))
     for number, (what, said) in enumerate(WRONG, 1):
-        shim = [f"-DWRONG={number}", "-xc", path("checks/built/wrong_regions.c"), "-xnone", f"-Wl,{WRAPPED}"]
+        shim = [f"-DWRONG={number}", "-xc", path("tests/c/wrong_regions.c"), "-xnone", f"-Wl,{WRAPPED}"]
         yield Row(what, must_be_seen, (room, Program(CALLS("regions"), [REGIONS], C, shim, ["2000"]), said))
     marked = Program(CALLS("regions"), [REGIONS], C, MARKED, ["100"], HELGRIND)
     yield Row("helgrind sees no race", must_run, (room, marked))

@@ -16,7 +16,7 @@ from checks.built.plan_model import DONE, NEVER, NO_JOB, Model
 from checks.lib.rows import Row, Skipped, Wrong, answer, must, run_rows
 
 EVENTS, MANY, AT_ONCE, SECONDS = 60_000, 1_000_000, 4000, 1800
-PROGRAM = "checks/built/plan.rs"
+PROGRAM = "tests/rust/plan.rs"
 
 SLIPS = (
     Slip("a job without an estimate is brief", "sched_core/small.rs", "return 0;", "return NEVER;"),

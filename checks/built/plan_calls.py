@@ -188,7 +188,7 @@ class Place(NamedTuple):
     folder: str
     room: str
 
-    def built(self, compiler, source="checks/built/plan_calls.c", flags=()):
+    def built(self, compiler, source="tests/c/plan_calls.c", flags=()):
         """Compiles a program over the library. Returns its path."""
         if not shutil.which(compiler[0]):
             raise Skipped(f"no {compiler[0]} here")
@@ -219,7 +219,7 @@ def must_agree(place, compiler, words):
 
 def must_refuse(place):
     """Sees that each request for memory may be refused, and that a planner has as many bytes as it says."""
-    program = place.built(C, "checks/built/plan_memory.c", ["-Wl,--wrap=malloc,--wrap=free"])
+    program = place.built(C, "tests/c/plan_memory.c", ["-Wl,--wrap=malloc,--wrap=free"])
     must(not list(calls(program, [])), "it writes")
 
 

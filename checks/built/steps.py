@@ -21,7 +21,7 @@ from checks.lib.repository import files_below, path, read, write
 from checks.lib.rows import Row, Skipped, answer, must, run_rows
 
 CALLS, MANY, SECONDS = 40_000, 1_000_000, 1800
-PROGRAM = "checks/built/steps.rs"
+PROGRAM = "tests/rust/steps.rs"
 WORDS = ["--edition", "2021", "-Coverflow-checks=on", "-O", *(f'--cfg=feature="{it}"' for it in ("lanes", "regions", "std"))]
 # The import of the words in the shim, and what stands there instead: each file of the source form that has one.
 IMPORT = "use core::sync::atomic::{AtomicU64, Ordering::SeqCst};"

@@ -57,7 +57,7 @@ def run_tests(name, line):
 
 def main(words):
     listed = lines()
-    names = sorted(it for it in os.listdir(path(FOLDER)) if os.path.isdir(path(FOLDER, it)))
+    names = sorted(it for it in os.listdir(path(FOLDER)) if os.path.isdir(path(FOLDER, it, "src")))
     with concurrent.futures.ThreadPoolExecutor(2) as pool:
         begun = {it: pool.submit(run_tests, it, listed[it]) for it in names if it in listed and (not words or it in words)}
         rows = [Row(f"{it} is listed", is_listed, (it, listed)) for it in names]

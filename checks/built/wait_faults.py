@@ -90,7 +90,7 @@ WRAPPED = ",".join(f"--wrap=cubejobs_lanes_{it}" for it in ("wake", "find", "awa
 
 def shim(number):
     """Returns the words that link wrong_sleep.c in front of the library."""
-    return [f"-DWRONG={number}", "-xc", path("checks/built/wrong_sleep.c"), "-xnone", f"-Wl,{WRAPPED}"]
+    return [f"-DWRONG={number}", "-xc", path("tests/c/wrong_sleep.c"), "-xnone", f"-Wl,{WRAPPED}"]
 
 
 # What is wrong with a library (wrong_sleep.c), and what sleep_calls.c says then.

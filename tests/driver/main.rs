@@ -3,11 +3,11 @@
 
 extern crate alloc;
 
-#[path = "../../../rust/src/place.rs"]
+#[path = "../../rust/src/place.rs"]
 mod place;
-#[path = "../../../rust/src/shared.rs"]
+#[path = "../../rust/src/shared.rs"]
 mod shared;
-#[path = "../../../rust/src/source/mod.rs"]
+#[path = "../../rust/src/source/mod.rs"]
 #[rustfmt::skip]
 mod source;
 
