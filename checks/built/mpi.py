@@ -15,9 +15,9 @@ import subprocess
 import tempfile
 import time
 
-from checks.built.plan_model import DONE, NO_JOB, Model
 from checks.lib.repository import path, read
 from checks.lib.rows import Row, Skipped, Wrong, answer, comes, must, output, put, run_rows
+from tests.models.plan_model import DONE, NO_JOB, Model
 
 RELEASE, SOURCE = path("release", "linux-x86_64"), "examples/mpi/cubempi.c"
 DIM, JOBS, SECONDS = 3, 500, 60

@@ -12,8 +12,8 @@ import shutil
 import tempfile
 
 from checks.built.beside import WORDS, Slip, copied
-from checks.built.plan_model import DONE, NEVER, NO_JOB, Model
 from checks.lib.rows import Row, Skipped, Wrong, answer, must, run_rows
+from tests.models.plan_model import DONE, NEVER, NO_JOB, Model
 
 EVENTS, MANY, AT_ONCE, SECONDS = 60_000, 1_000_000, 4000, 1800
 PROGRAM = "tests/rust/plan.rs"

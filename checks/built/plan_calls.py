@@ -13,9 +13,9 @@ import subprocess
 import tempfile
 from typing import NamedTuple
 
-from checks.built.plan_model import DONE, NO_JOB, Model
 from checks.lib.repository import path
 from checks.lib.rows import Row, Skipped, answer, must, run_rows
+from tests.models.plan_model import DONE, NO_JOB, Model
 
 LIBRARY = "libcubejobs_plan.a"
 STRICT = ["-O1", "-g", "-Wall", "-Wextra", "-Werror", "-pedantic", f"-I{path('include')}"]

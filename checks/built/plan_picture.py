@@ -2,9 +2,9 @@
 
 `checks/run plan_picture [--write]` compares the pictures with what it draws, or writes them.
 """
-from checks.built.plan_model import Model
 from checks.lib.repository import path, read, write
 from checks.lib.rows import Row, must, run_rows
+from tests.models.plan_model import Model
 
 DIM, HOURS = 4, 15
 # What is submitted: the time, a name, processors, an estimate, and a word for its colour.

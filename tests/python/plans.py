@@ -8,10 +8,10 @@ import sys
 import threading
 import weakref
 
-from checks.built.plan_model import DONE, FULL, NEVER, NO_JOB, RESERVED, WAITS, Model
-from checks.built.python.behaviour import raises
 from checks.lib.rows import must
 from cubejobs import Counts, Job, NoJob, Planner, PlannerFull, Region, State, WrongState
+from tests.models.plan_model import DONE, FULL, NEVER, NO_JOB, RESERVED, WAITS, Model
+from tests.python.behaviour import raises
 
 
 class Payload:

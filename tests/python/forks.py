@@ -9,19 +9,11 @@ import threading
 
 from checks.lib.rows import must
 from cubejobs import FirstFit, NoRoom, OtherProcess, Planner, Region, Regions
+from tests.python.behaviour import raises
 
 SECONDS = 60
 # The machines that a forked child finds.
 FOUND = {}
-
-
-def raises(kind, call, *arguments):
-    """Sees that a call raises an exception of this kind."""
-    try:
-        result = call(*arguments)
-    except kind:
-        return
-    must(False, f"{call} returns {result!r}, and does not raise {kind.__name__}")
 
 
 def in_a_child(act):

@@ -15,10 +15,10 @@ import time
 import weakref
 from concurrent.futures import CancelledError, as_completed, wait
 
-from checks.built.python.behaviour import KEPT, _resident, raises
-from checks.built.python.forks import in_a_child, leave
 from checks.lib.rows import must
 from cubejobs import Forecast, NoJob, OtherProcess, Region, Scheduler, SchedulerCounts, State, WrongState, current_processors
+from tests.python.behaviour import KEPT, _resident, raises
+from tests.python.forks import in_a_child, leave
 
 # A program that waits in vain fails after this many seconds. One that ends without a shutdown has fewer.
 SECONDS, TO_END = 60, 5

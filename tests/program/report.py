@@ -1,7 +1,7 @@
 """Rows of `report`."""
-from checks.built.program.run import REFUSED, SHOPS
-from checks.built.program.texts import JOBS, MOST, TOTALS, answered, first, many, refused
 from checks.lib.rows import Row
+from tests.program.run import REFUSED, SHOPS
+from tests.program.texts import JOBS, MOST, TOTALS, answered, first, many, refused
 
 
 def totals(lanes, dims, total):

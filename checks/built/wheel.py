@@ -88,7 +88,7 @@ class Wheel:
         """Sees that mypy, if it is here, finds the types of the installed module."""
         if shutil.which("mypy"):
             words = ["mypy", "--strict", "--cache-dir", os.devnull, "--python-executable", self.python]
-            words.append(path("checks", "built", "python", "typed.py"))
+            words.append(path("tests", "python", "typed.py"))
             status, said, more = answer(words, "", text=True, env=self.env, cwd=self.work, timeout=SECONDS)
             must(status == 0, (said + more)[-800:])
 

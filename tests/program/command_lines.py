@@ -1,9 +1,9 @@
 """Rows of command lines that are refused, whatever the input is; and each help, and the version."""
 import re
 
-from checks.built.program.texts import (
-    ANSWERS, BAD, CALLS, COMMANDS, EVENTS, JOBS, REPLIES, TOTALS, VALUES, VERSION, WRITE)
 from checks.lib.rows import Row, answer, must, must_answer, output, shown
+from tests.program.texts import (
+    ANSWERS, BAD, CALLS, COMMANDS, EVENTS, JOBS, REPLIES, TOTALS, VALUES, VERSION, WRITE)
 
 COMMANDS_OF_CLI = ("run", "report", "place", "replay")
 N, D, C, S = "--dim <N>", "--dispatchers <D>", "--capacity <C>", "--stations <S>"

@@ -1,7 +1,7 @@
 """Rows of `replay`."""
-from checks.built.program.texts import CALLS, EVENTS, MOST, NO_HEADER, answered, refused
 from checks.lib.repository import read
 from checks.lib.rows import Row
+from tests.program.texts import CALLS, EVENTS, MOST, NO_HEADER, answered, refused
 
 
 def example(name):

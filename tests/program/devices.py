@@ -8,9 +8,9 @@ import subprocess
 import tempfile
 import termios
 
-from checks.built.program.texts import ANSWERS, BAD, COMMANDS, GOOD, HEADERS, JOBS, READ, REPLY, WRITE
 from checks.lib.repository import read_bytes
 from checks.lib.rows import Row, comes, encoded, must, must_answer, must_be_answer, put, shown
+from tests.program.texts import ANSWERS, BAD, COMMANDS, GOOD, HEADERS, JOBS, READ, REPLY, WRITE
 
 # Redirections of the shell of `run` at dimension 3 on a file of one job: the status, and standard error.
 DEVICES = {

@@ -16,11 +16,11 @@ import platform
 import shutil
 import tempfile
 
-from checks.built.python import wheel
+from checks.built import wheel
 from checks.lib.repository import ROOT, path, read
 from checks.lib.rows import Row, Skipped, answer, must, output, run_rows
 
-HERE, MODULE = path("checks", "built", "python"), path("python")
+HERE, MODULE = path("tests", "python"), path("python")
 DOCTEST = "import cubejobs, doctest; failed, tried = doctest.testmod(cubejobs); print(tried); raise SystemExit(failed)"
 EXAMPLES = ("day.py", "gang.py", "processes.py")
 SECONDS = 900

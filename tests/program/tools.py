@@ -2,8 +2,8 @@
 import os
 import tempfile
 
-from checks.built.program.texts import MOST
 from checks.lib.rows import Row, answer, must, must_answer, output, shown
+from tests.program.texts import MOST
 
 LISTED = "record,line,field,text,fault,wanted\n"
 MESSAGES = "round,from,to\n"

@@ -5,9 +5,9 @@ formats and the definitions; only the lines on bad command lines are taken over,
 status, standard output or standard error is another one. A comment `against` names wrong programs that answer the rows
 after it in another way. `checks/run program FILE` tries the program FILE.
 """
-from checks.built.program import command_lines, devices, events, named_files, place, replay, report, run, tools
 from checks.lib.rows import run_rows
 from checks.lib.toolchain import program
+from tests.program import command_lines, devices, events, named_files, place, replay, report, run, tools
 
 PARTS = (run, report, place, replay, command_lines, devices, named_files, events, tools)
 

@@ -1,7 +1,7 @@
 """Rows of `run`, and the refused files of jobs."""
-from checks.built.program.texts import (
-    GOOD, JOBS, MOST, NO_HEADER, REPLIES, REPLY, VALUES, answered, first, lines_of, many, refused)
 from checks.lib.rows import Row, must_answer
+from tests.program.texts import (
+    GOOD, JOBS, MOST, NO_HEADER, REPLIES, REPLY, VALUES, answered, first, lines_of, many, refused)
 
 OPERATIONS = ("add", "min", "max", "xor", "and", "or")
 # Dispatchers, capacities and `--quiet` of `run` and `report`, none of which changes a byte.

@@ -4,10 +4,10 @@ import collections
 import os
 import tempfile
 
-from checks.built.program.named_files import HELD, REPORTED, must_leave, put_in, words_of
-from checks.built.program.texts import ANSWERS, BAD, GOOD, JOBS, REPLIES, REPLY
 from checks.lib.repository import read_bytes
 from checks.lib.rows import Row, must, must_answer
+from tests.program.named_files import HELD, REPORTED, must_leave, put_in, words_of
+from tests.program.texts import ANSWERS, BAD, GOOD, JOBS, REPLIES, REPLY
 
 # The events of a job of one number on a machine of one processor.
 EVENTS = f"{ANSWERS}\ntake,l0s0,0,0,given\nfree,l0s0,0,0,freed\n"

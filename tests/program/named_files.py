@@ -4,10 +4,10 @@ import os
 import shutil
 import tempfile
 
-from checks.built.program.devices import open_pipe
-from checks.built.program.texts import ANSWERS, BAD, CALLS, COMMANDS, EVENTS, GOOD, REPLY, TOTALS, VALUES
 from checks.lib.repository import read_bytes
 from checks.lib.rows import AS_NOBODY, Row, encoded, must, must_answer, put
+from tests.program.devices import open_pipe
+from tests.program.texts import ANSWERS, BAD, CALLS, COMMANDS, EVENTS, GOOD, REPLY, TOTALS, VALUES
 
 PLACED = f"{COMMANDS}\ntake,a,1\n", f"{ANSWERS}\ntake,a,1,0,given\n"
 PLAYED = f"{CALLS}\n0,take,1\n", f"{EVENTS}\n-,end,-,-,0\n"

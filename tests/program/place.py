@@ -1,6 +1,6 @@
 """Rows of `place`."""
-from checks.built.program.texts import ANSWERS, CALLS, COMMANDS, JOBS, MOST, NO_HEADER, answered, refused
 from checks.lib.rows import Row
+from tests.program.texts import ANSWERS, CALLS, COMMANDS, JOBS, MOST, NO_HEADER, answered, refused
 
 
 def given(rows):
