@@ -15,12 +15,12 @@ import subprocess
 import tempfile
 from typing import NamedTuple
 
+from checks.lib.c_programs import LIBRARIES
 from checks.lib.repository import path, read_bytes
 from checks.lib.rows import Wrong, must, put
 from checks.lib.toolchain import kit
 from checks.source import version
 
-LIBRARIES = ("cubejobs_fit", "cubejobs_plan", "cubejobs_sched", "cubejobs_lanes", "cubejobs_rounds", "cubejobs_regions")
 # What the names of the headers' functions begin with.
 OWN = b"cubejobs_"
 SYMBOL = struct.Struct("<IBBHQQ")

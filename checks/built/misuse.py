@@ -5,9 +5,8 @@ each other's blocks. ThreadSanitizer sees two threads with one handle. A crash i
 """
 import os
 
-from checks.built.install import needs
 from checks.lib.repository import path
-from checks.lib.rows import Row, answer, must
+from checks.lib.rows import Row, answer, must, needs
 
 SECONDS = 600
 INCLUDE = f"-I{path('include')}"

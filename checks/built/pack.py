@@ -13,7 +13,7 @@ import subprocess
 import tarfile
 import tempfile
 
-from checks.built.install import clone_with, tree
+from checks.lib.clones import clone_with, tree
 from checks.lib.repository import ROOT, path, read, write
 from checks.lib.rows import Row, Skipped, answer, must, run_rows
 from checks.source import version

@@ -11,20 +11,13 @@ import random
 import shutil
 import tempfile
 
-from checks.built.beside import WORDS, Slip, copied
+from checks.built.beside import WORDS, copied
 from checks.lib.rows import Row, Skipped, Wrong, answer, must, run_rows
+from tests.faults.slips import OF_THE_PLANNER
 from tests.models.plan_model import DONE, NEVER, NO_JOB, Model
 
 EVENTS, MANY, AT_ONCE, SECONDS = 60_000, 1_000_000, 4000, 1800
 PROGRAM = "tests/rust/plan.rs"
-
-SLIPS = (
-    Slip("a job without an estimate is brief", "sched_core/small.rs", "return 0;", "return NEVER;"),
-    Slip("the front of a queue stays", "wait_queue/queues.rs", "place_after(nodes, queue.front, queue.root, slot)", "queue.front"),
-    Slip("each usable half is chosen", "sched_blocks/blocks.rs", "if !self.out.has_fit_in(k, upper) {", "if false {"),
-    Slip("a free slot is not linked back", "sched_jobs/line_table.rs", "self.set_rank(next, slot as u64 + 1);", ""),
-    Slip("all jobs come before", "sched_core/forecast.rs", "before + 1", "before + 2"),
-)
 
 
 class Player:
@@ -143,5 +136,5 @@ def must_see(slip):
 
 def main(words):
     rows = [Row("each answer is that of the model", compared, (MANY if "--long" in words else EVENTS,))]
-    rows += [Row(slip.name, must_see, (slip,)) for slip in SLIPS]
+    rows += [Row(slip.name, must_see, (slip,)) for slip in OF_THE_PLANNER]
     return run_rows("plan", rows)

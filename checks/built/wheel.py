@@ -8,13 +8,12 @@ import csv
 import hashlib
 import io
 import os
-import re
 import shutil
 import sysconfig
 import tarfile
 import zipfile
 
-from checks.built.install import clone_with, tree
+from checks.lib.clones import clone_with, tree
 from checks.lib.repository import path, read
 from checks.lib.rows import Row, Skipped, answer, must, output, put
 from checks.source import version

@@ -1,7 +1,7 @@
 """Sees that each sentence that promises something has what carries it.
 
 It reads README.md, docs/C.md, docs/RUST.md, docs/LANES.md, docs/REGIONS.md, docs/SCHEDULER.md and the headers of
-`include`, and finds each sentence that says "proved", "never", "each" or "at most". The file `checks/source/claims` lists
+`include`, and finds each sentence that says "proved", "never", "each" or "at most". The file `tests/claims.txt` lists
 them by page. An entry is the beginning of a sentence, with code and links as they are written, and then, on a line that is
 set in, what carries it, parted by semicolons:
 
@@ -23,7 +23,7 @@ from checks.lib.repository import files_below, path, place, read
 from checks.lib.rows import blind, print_faults
 from checks.source.prose import END, comments_of, outside_code, parts
 
-ENTRIES = "checks/source/claims"
+ENTRIES = "tests/claims.txt"
 PAGES = ("README.md", "docs/C.md", "docs/RUST.md", "docs/LANES.md", "docs/REGIONS.md", "docs/SCHEDULER.md")
 PROMISES = re.compile(r"\b(?:proved|proves|never|each|at most)\b", re.I)
 PLAIN = ("a duty", "a description")

@@ -5,7 +5,7 @@ import subprocess
 import tempfile
 
 from checks.lib.repository import read
-from checks.lib.rows import Wrong, comes, must, put
+from checks.lib.rows import comes, must, put
 
 SECONDS = 20
 # A job that runs until there is a file, or for a minute: a wrong program leaves it running.
@@ -107,15 +107,3 @@ def must_work(room, program):
     for part in (must_plan, must_cancel, must_end):
         with tempfile.TemporaryDirectory(dir=room) as folder:
             part(words, folder)
-
-
-def must_see(room, program, old, new):
-    """Sees that one of the parts fails with a wrong program."""
-    right, file = read(program.source), f"{room}/wrong.c"
-    must(right.count(old) == 1, f"{program.source} has no {old!r}")
-    put(file, right.replace(old, new))
-    try:
-        must_work(room, program._replace(source=file))
-    except Wrong:
-        return
-    raise Wrong("it is not seen")

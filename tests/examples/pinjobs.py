@@ -6,8 +6,7 @@ import signal
 import subprocess
 import tempfile
 
-from checks.lib.repository import read
-from checks.lib.rows import Skipped, Wrong, answer, comes, must, must_be_answer, put
+from checks.lib.rows import Skipped, answer, comes, must, must_be_answer, put
 
 COMMANDS, SECONDS = 200, 120
 # How much later than it was started a command may read the clock, in nanoseconds.
@@ -138,18 +137,6 @@ WRONG_PROGRAMS = (
     ("a signal is no exit code", "128 + WTERMSIG(status)", "WTERMSIG(status)"),
     ("a second Ctrl-C is no harder", "stops++ ? SIGKILL : SIGTERM", "stops++ ? SIGTERM : SIGTERM"),
 )
-
-
-def must_see(room, program, old, new):
-    """Sees that one of the parts fails with a wrong program."""
-    right, file = read(program.source), f"{room}/wrong.c"
-    must(right.count(old) == 1, f"{program.source} has no {old!r}")
-    put(file, right.replace(old, new))
-    try:
-        must_work(room, program._replace(source=file))
-    except (Wrong, subprocess.TimeoutExpired):
-        return
-    raise Wrong("it is not seen")
 
 
 def must_work(room, program):

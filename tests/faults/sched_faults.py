@@ -3,12 +3,12 @@
 Without one of these lines an owner ends what is not its own, or leaves what is. sched_owners.cpp must see it. Or a thread
 that naps loses a wake, which sched_random.c must see.
 """
-from checks.built.wait_faults import LOST
+from checks.lib.c_programs import RACE
+from tests.faults.wait_faults import LOST
 
 # What a program says that sees a fault: one of its own statements does not hold, or a thread sleeps for too long. Which
 # of them comes first depends on the order of the threads.
 SEEN = (b", part ", LOST)
-RACE = b"WARNING: ThreadSanitizer: data race"
 LOCK = "        std::lock_guard<std::mutex> locked(turn);\n"
 END, LEAVE = (f"    {it} {{\n" for it in ("cubejobs_sched_code end(std::uint64_t ticket)", "void leave()"))
 # What is wrong, the lines and what is there instead, and what is said then, if that is not SEEN.

@@ -2,8 +2,6 @@
 
 Without one of these lines some order of threads loses a wake, so a thread sleeps for ever. The programs must see it.
 """
-from checks.lib.repository import path
-
 LOST = b"a wake is lost"
 # Of the threads that wait for blocks.
 RAISED = "    cubejobs_event_raise(event);\n"
@@ -85,14 +83,6 @@ OF_OWNERS = (
     ("room_calls", "a deadline is ignored", SLEEPS, f"(void)deadline, {SLEEPS}".replace("deadline);", "nullptr);"), LOST),
     ("room_calls", "a submit is late at once", SLEEPS, f"{SLEEPS[:-1]} || deadline;", EARLY),
 )
-WRAPPED = ",".join(f"--wrap=cubejobs_lanes_{it}" for it in ("wake", "find", "awake"))
-
-
-def shim(number):
-    """Returns the words that link wrong_sleep.c in front of the library."""
-    return [f"-DWRONG={number}", "-xc", path("tests/c/wrong_sleep.c"), "-xnone", f"-Wl,{WRAPPED}"]
-
-
 # What is wrong with a library (wrong_sleep.c), and what sleep_calls.c says then.
 OF_A_LIBRARY = (
     ("a wake names nobody", LOST),
