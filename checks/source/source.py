@@ -17,6 +17,7 @@ import shutil
 from checks.lib import erase
 from checks.lib.repository import files_below, path, place, read, write
 from checks.lib.rows import Row, Skipped, Wrong, must, run_rows
+from checks.lib.token_trees import Unknown, parsed, shown
 from checks.lib.toolchain import kit
 
 HOME, SHIM, EXPORTS, PAGE = "rust/src/source", "rust/src/source/kit", "rust/c/src", "docs/SOURCE.md"
@@ -196,23 +197,23 @@ def audited():
 
 def refuses(text):
     """Sees that the eraser refuses a text."""
-    eraser, ends = erase.Eraser("crate", set()), erase.Ends()
+    eraser, ends = erase.eraser_of("crate", set()), erase.Ends()
     eraser.file = "crate/file"
     try:
         must(not erase.DIFFERING.search(text), "it is refused")
-        ends.add("file", erase.shown(eraser.erased(erase.parsed(text))))
+        ends.add("file", shown(eraser.erased(parsed(text))))
         ends.settle()
         must(all(ends.only_ends(it.owner, it.body) for it in eraser.drops), "it is refused")
-    except (erase.Unknown, Wrong):
+    except (Unknown, Wrong):
         return
     raise Wrong("the eraser takes it")
 
 
 def keeps(text):
     """Sees that the eraser leaves a text as it is."""
-    eraser = erase.Eraser("crate", set())
+    eraser = erase.eraser_of("crate", set())
     eraser.file = "crate/file"
-    erased = erase.shown(eraser.erased(erase.parsed(text)))
+    erased = shown(eraser.erased(parsed(text)))
     must(erased.split() == text.split(), f"it becomes {erased!r}")
 
 

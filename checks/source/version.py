@@ -10,7 +10,7 @@ released version is of exactly these sources: after a change of one the version 
 """
 import re
 
-from checks.lib.repository import path, read, write
+from checks.lib.repository import read, write
 from checks.lib.rows import Wrong, blind, must, print_faults
 from checks.lib.toolchain import sum_of_sources
 
