@@ -25,7 +25,7 @@ import tempfile
 
 from checks.lib import erase
 from checks.lib.repository import path, read, write
-from checks.lib.rows import Row, Skipped, answer, must, run_rows
+from checks.lib.rows import Row, Skipped, answer, must, needs, run_rows
 from tests.faults.slips import OF_ANSWERS, SEEN_BY_THE_DRIVER, Slip
 
 CALLS, MANY, ROUNDS, SECONDS = 100_000, 1_000_000, 16_000, 1800
@@ -66,8 +66,7 @@ def built(root, folder, source=PROGRAM, more=()):
 
 def all_same(calls):
     """Sees that all answers are the same."""
-    if not shutil.which("rustc"):
-        raise Skipped("there is no rustc")
+    needs("rustc")
     with tempfile.TemporaryDirectory() as folder:
         status, out, err = answer([built(path(), folder), str(calls)], "", timeout=SECONDS, text=True)
     must(status == 0, err[:2000])
@@ -108,8 +107,7 @@ def driver_sources():
 @functools.cache
 def driven(steps):
     """Runs the driver by `rt try`, in a copy of the crates in which each is a library. Returns what it prints."""
-    if not shutil.which("rt"):
-        raise Skipped("there is no rt")
+    needs("rt")
     with tempfile.TemporaryDirectory() as folder:
         shutil.copytree(path("crates"), f"{folder}/crates", ignore=shutil.ignore_patterns("out"))
         for name, text in driver_sources().items():
@@ -138,8 +136,7 @@ def erased_driver(slips):
 
 def prints_the_same(steps):
     """Sees that the driver and its erased text print the same."""
-    if not shutil.which("rustc"):
-        raise Skipped("there is no rustc")
+    needs("rustc")
     here = driven(steps)
     found = difference(here, *erased_driver([]))
     must(not found, found)

@@ -31,7 +31,7 @@ from checks.lib.c_programs import (
     C, CHECKED, CLANG, FIT, LANES, LIBRARIES, PLAN, REGIONS, ROUNDS, SCHED, SECONDS, Program, must_run, must_see_change,
     unlike)
 from checks.lib.repository import files_below, path
-from checks.lib.rows import Row, Skipped, answer, must, put, run_rows
+from checks.lib.rows import Row, answer, must, needs, put, run_rows
 from checks.lib.toolchain import AFTER_GATE, FOR_ANY
 from tests.examples import event_loop, pinjobs
 
@@ -94,8 +94,7 @@ def rows(room, longer, seconds):
 
 def build_sources(room):
     """Builds the library of plain Rust for each header, and puts it into a folder by the name of the archive."""
-    if not shutil.which("cargo"):
-        raise Skipped("no cargo here")
+    needs("cargo")
     for crate, feature in erase.LIBRARIES.items():
         words = ["cargo", "build", "--quiet", "--offline", "--release", "--package=cubejobs-c", "--no-default-features"]
         words += [f"--features={feature}", f"--manifest-path={path('rust', 'Cargo.toml')}"]
@@ -105,8 +104,7 @@ def build_sources(room):
 
 
 def rust(room):
-    if not shutil.which("cargo"):
-        raise Skipped("no cargo here")
+    needs("cargo")
     subprocess.run([path("checks", "run"), "ffi_rust", room], check=True)
 
 

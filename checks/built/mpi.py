@@ -9,14 +9,13 @@ files named by line and field. It is skipped where mpicc or mpirun is not there.
 import collections
 import os
 import random
-import shutil
 import signal
 import subprocess
 import tempfile
 import time
 
 from checks.lib.repository import path, read
-from checks.lib.rows import Row, Skipped, Wrong, answer, comes, must, output, put, run_rows
+from checks.lib.rows import Row, Skipped, Wrong, answer, comes, must, needs, output, put, run_rows
 from tests.models.plan_model import DONE, NO_JOB, Model
 
 RELEASE, SOURCE = path("release", "linux-x86_64"), "examples/mpi/cubempi.c"
@@ -62,8 +61,7 @@ def random_jobs(seed):
 
 def build(folder, room, source=None, compiler="gcc"):
     """Compiles the example, or another text of it. Returns the program."""
-    if not shutil.which(compiler):
-        raise Skipped(f"no {compiler} here")
+    needs(compiler)
     file = path(SOURCE)
     if source:
         file = f"{room}/wrong.c"
@@ -224,8 +222,6 @@ def rows(folder, room):
 
 def main(words):
     folder = os.path.realpath(words[0]) if words else RELEASE
-    for tool in ("mpicc", "mpirun"):
-        if not shutil.which(tool):
-            raise Skipped(f"no {tool} here")
+    needs("mpicc", "mpirun")
     with tempfile.TemporaryDirectory(prefix="mpi-") as room:
         return run_rows("mpi", rows(folder, room), says_ok=True)

@@ -8,14 +8,13 @@ files of release/. They are small and made at will, so the repository does not k
 import gzip
 import os
 import re
-import shutil
 import subprocess
 import tarfile
 import tempfile
 
 from checks.lib.clones import clone_with, tree
 from checks.lib.repository import ROOT, path, read, write
-from checks.lib.rows import Row, Skipped, answer, must, run_rows
+from checks.lib.rows import Row, answer, must, needs, run_rows
 from checks.source import version
 
 # What the tarball has, of the files that git knows.
@@ -79,8 +78,7 @@ def processors(clone):
 
 def debian(clone, out, processor="x86_64"):
     """Writes the Debian package for a processor, and returns its path."""
-    if not shutil.which("dpkg-deb"):
-        raise Skipped("no dpkg-deb here")
+    needs("dpkg-deb")
     number, architecture = version.of_sources().replace("-", "~"), PROCESSORS[processor]
     made = os.path.join(out, f"cubejobs_{number}_{architecture}.deb")
     with tempfile.TemporaryDirectory() as room:

@@ -22,7 +22,7 @@ from checks.built import plan_picture
 from checks.lib.browser import browser_here
 from checks.lib.page_scripts import PAGE, block, in_page, set_block
 from checks.lib.repository import path, read, write
-from checks.lib.rows import Skipped, output, print_faults
+from checks.lib.rows import needs, output, print_faults
 from checks.lib.toolchain import program, wasm_module
 from tests.page import browser as page_browser
 from tests.page.tables import BAD_FILES, CARDS, FORGED, SCHEDULES
@@ -331,8 +331,7 @@ def check_pictures(built, schedules, draws):
 
 
 def main(words):
-    if not shutil.which("node"):
-        raise Skipped("there is no node")
+    needs("node")
     built, draws = program(words), "--draw" in words
     schedules = [Schedule(built, name) for name in SCHEDULES]
     place, events = output([built, "place", "--dim", "3"], read("examples", "place.csv")), read("examples", "events.csv")

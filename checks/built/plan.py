@@ -8,11 +8,10 @@ It must see slips.
 """
 import os
 import random
-import shutil
 import tempfile
 
 from checks.built.beside import WORDS, copied
-from checks.lib.rows import Row, Skipped, Wrong, answer, must, run_rows
+from checks.lib.rows import Row, Wrong, answer, must, needs, run_rows
 from tests.faults.slips import OF_THE_PLANNER
 from tests.models.plan_model import DONE, NEVER, NO_JOB, Model
 
@@ -98,8 +97,7 @@ class Player:
 
 def built(folder, slip=None):
     """Builds the program in a folder, with a slip, and returns its path."""
-    if not shutil.which("rustc"):
-        raise Skipped("there is no rustc")
+    needs("rustc")
     copied(folder, PROGRAM, [slip] if slip else [])
     program = os.path.join(folder, "plan")
     words = ["nice", "rustc", *WORDS, '--cfg=feature="plan"', "-o", program, os.path.join(folder, PROGRAM)]

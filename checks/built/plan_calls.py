@@ -8,13 +8,12 @@ must be seen. Each request for memory is refused in turn. SEED, PLANNERS and
 CALLS are for a longer run: calls of so many planners.
 """
 import os
-import shutil
 import subprocess
 import tempfile
 from typing import NamedTuple
 
 from checks.lib.repository import path
-from checks.lib.rows import Row, Skipped, answer, must, run_rows
+from checks.lib.rows import Row, answer, must, needs, run_rows
 from tests.models.plan_model import DONE, NO_JOB, Model
 
 LIBRARY = "libcubejobs_plan.a"
@@ -190,8 +189,7 @@ class Place(NamedTuple):
 
     def built(self, compiler, source="tests/c/plan_calls.c", flags=()):
         """Compiles a program over the library. Returns its path."""
-        if not shutil.which(compiler[0]):
-            raise Skipped(f"no {compiler[0]} here")
+        needs(compiler[0])
         out = f"{self.room}/program"
         words = [*compiler, *STRICT, path(source), "-xnone", *flags, f"{self.folder}/{LIBRARY}", "-o", out]
         status, _, said = answer(words, timeout=300)

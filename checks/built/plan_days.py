@@ -9,12 +9,11 @@ time. If no job runs longer than its estimate, no job may start later than it wa
 A list with a fault must be seen. With --long there are more and longer days.
 """
 import os
-import shutil
 import tempfile
 from typing import NamedTuple
 
 from checks.lib.repository import path
-from checks.lib.rows import Row, Skipped, answer, must, output, run_rows
+from checks.lib.rows import Row, answer, must, needs, output, run_rows
 
 LIBRARY, LIST = "libcubejobs_plan.a", "list.h"
 PATIENCE, SEEDS = 16, 4
@@ -60,8 +59,7 @@ class Place(NamedTuple):
         program = f"{self.room}/{name}"
         if os.path.exists(program):
             return program
-        if not shutil.which("gcc"):
-            raise Skipped("no gcc here")
+        needs("gcc")
         words = ["gcc", "-O2", "-std=gnu11", "-Wall", "-Wextra", "-Werror", f'-DSCHEDULER="{header}"']
         words += [f"-I{path('include')}", f"-I{path('bench/schedulers')}", path("bench/schedulers/days.c"), "-o", program]
         archive = [f"{self.folder}/{LIBRARY}"] if header == "library.h" else []

@@ -18,7 +18,7 @@ import subprocess
 import tempfile
 
 from checks.lib.repository import files_below, path, read
-from checks.lib.rows import Skipped, Wrong
+from checks.lib.rows import Wrong, needs
 
 PACKAGE = "rust/pool"
 # The seconds of a build, of a whole run of the tests, and the least limit of a test that may see a mutant. On a busy
@@ -228,8 +228,7 @@ def see_mutants(names):
 
 
 def main(words):
-    if not shutil.which("cargo"):
-        raise Skipped("no cargo here")
+    needs("cargo")
     if words[:1] == ["--mutants"]:
         see_mutants(words[1:])
         return

@@ -13,12 +13,11 @@ import ast
 import multiprocessing
 import os
 import platform
-import shutil
 import tempfile
 
 from checks.built import wheel
 from checks.lib.repository import ROOT, path, read
-from checks.lib.rows import Row, Skipped, answer, must, output, run_rows
+from checks.lib.rows import Row, answer, must, needs, output, run_rows
 
 HERE, MODULE = path("tests", "python"), path("python")
 DOCTEST = "import cubejobs, doctest; failed, tried = doctest.testmod(cubejobs); print(tried); raise SystemExit(failed)"
@@ -57,8 +56,7 @@ class Module:
         must(self.runs(file) == read(f"{file[:-3]}.out"), f"{name} has another output")
 
     def has_good_types(self):
-        if not shutil.which("mypy"):
-            raise Skipped("no mypy here")
+        needs("mypy")
         words = ["mypy", "--strict", "--cache-dir", os.devnull, f"{MODULE}/cubejobs", f"{MODULE}/backend",
                  f"{HERE}/typed.py", *(path("examples", it) for it in EXAMPLES)]
         status, said, more = answer(words, "", text=True, env={**os.environ, "MYPYPATH": MODULE}, timeout=SECONDS)

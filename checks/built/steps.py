@@ -12,12 +12,11 @@ It must see slips, most of them calls that make loads more: each second one of O
 """
 import os
 import re
-import shutil
 import tempfile
 
 from checks.lib import erase
 from checks.lib.repository import files_below, path, read, write
-from checks.lib.rows import Row, Skipped, answer, must, run_rows
+from checks.lib.rows import Row, answer, must, needs, run_rows
 from tests.faults.slips import OF_STEPS
 
 CALLS, MANY, SECONDS = 40_000, 1_000_000, 1800
@@ -48,8 +47,7 @@ def sources():
 
 def ran(calls, slip=None):
     """Builds the program, with a slip, and runs it. Returns its status, its output and its errors."""
-    if not shutil.which("rustc"):
-        raise Skipped("there is no rustc")
+    needs("rustc")
     texts = sources()
     if slip:
         must(texts[slip.file].count(slip.old) == 1, f"the text {slip.old!r} is not there once")

@@ -11,7 +11,7 @@ import shutil
 import tempfile
 
 from checks.lib.repository import files_below, path, read, write
-from checks.lib.rows import Row, Skipped, answer, must, run_rows
+from checks.lib.rows import Row, answer, must, needs, run_rows
 
 FOLDER, USES, ENDING = "tests", "tests/uses.txt", ".rt.in"
 # The most seconds of one test, and of all tests of a crate.
@@ -38,8 +38,7 @@ def copy_tests(name, room):
 
 def run_tests(name, line):
     """Runs the tests of a crate in a copy of the crates, whose sources are laid out. Returns how many passed."""
-    if not shutil.which("rt"):
-        raise Skipped("there is no rt")
+    needs("rt")
     with tempfile.TemporaryDirectory(prefix="tests-") as room:
         shutil.copytree(path("crates"), f"{room}/crates", ignore=shutil.ignore_patterns("out", "proofs"))
         shutil.copy(path("HANDLES"), room)

@@ -5,7 +5,7 @@ import subprocess
 from typing import NamedTuple, Sequence
 
 from checks.lib.repository import path, read
-from checks.lib.rows import Skipped, Wrong, answer, must, put
+from checks.lib.rows import Skipped, Wrong, answer, must, needs, put
 
 SECONDS = 7200
 LIBRARIES = FIT, PLAN, SCHED, LANES, ROUNDS, REGIONS = tuple(
@@ -57,8 +57,7 @@ class Program(NamedTuple):
         has, tried = shutil.which(self.compiler[0]), [*self.compiler, "-o", "/dev/null", "-"]
         if not has or answer(tried, "int main() { return 0; }")[0]:
             raise Skipped(f"no {' '.join(self.compiler)} here")
-        if self.placed and not shutil.which(self.placed[0]):
-            raise Skipped(f"no {self.placed[0]} here")
+        needs(*self.placed[:1])
         libraries = [f"{room}/lib{it}.a" if it.startswith("cubejobs_") else it for it in self.libraries]
         words = [*self.compiler, *STRICT, path(self.source), "-xnone", *self.flags, *libraries, "-pthread"]
         if COMPILED.get(room) != (words, read(self.source)):

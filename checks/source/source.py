@@ -16,7 +16,7 @@ import shutil
 
 from checks.lib import erase
 from checks.lib.repository import files_below, path, place, read, write
-from checks.lib.rows import Row, Skipped, Wrong, must, run_rows
+from checks.lib.rows import Row, Wrong, must, needs, run_rows
 from checks.lib.token_trees import Unknown, parsed, shown
 from checks.lib.toolchain import kit
 
@@ -229,8 +229,7 @@ def shim_is_small():
 
 def shim_is_read():
     """Sees that no file of the toolchain for which the shim stands has changed."""
-    if not shutil.which("rt"):
-        raise Skipped("there is no rt")
+    needs("rt")
     now = {}
     for name in READ:
         with open(os.path.join(kit().KIT, "rattle", name), "rb") as file:

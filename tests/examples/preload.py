@@ -3,10 +3,9 @@
 The programs list folders, sort with four threads, and fill and query a database. One that is not there is skipped.
 """
 import os
-import shutil
 
 from checks.lib.repository import path
-from checks.lib.rows import Row, Skipped, answer, must, put
+from checks.lib.rows import Row, answer, must, needs, put
 
 SECONDS = 300
 LINES = "".join(f"{number * 7919 % 1000003} line {number}\n" for number in range(200_000))
@@ -64,8 +63,7 @@ int main(int count, char **words) {
 
 
 def must_be_same(room, words, text):
-    if not shutil.which(words[0]):
-        raise Skipped(f"no {words[0]} here")
+    needs(words[0])
     env = {**os.environ, "LC_ALL": "C"}
     before = answer(words, text, text=True, env=env, timeout=SECONDS)
     after = answer(words, text, text=True, env={**env, "LD_PRELOAD": f"{room}/preload.so"}, timeout=SECONDS)

@@ -11,7 +11,7 @@ from checks.lib.launcher_room import (
     COLUMNS, COREUTILS, CRATES, PATIENCE, RELEASED, TOOLS, Clone, ended, is_of_program, is_running, line_with, must_be,
     must_be_short, refuses, sentences)
 from checks.lib.repository import PARTS, crate_files, path, place, read, read_bytes
-from checks.lib.rows import AS_NOBODY, ENDING, Skipped, answer, comes, must
+from checks.lib.rows import AS_NOBODY, ENDING, Skipped, answer, comes, must, needs
 
 # The shells that are here, each of which may be /bin/sh.
 KNOWN = (["sh"], ["dash"], ["bash"], ["busybox", "sh"])
@@ -134,8 +134,7 @@ class Situations(Clone):
 
     def a_release_on_a_mount_with_noexec(self):
         """Runs a program that was built elsewhere, and builds none that could not be run."""
-        if not shutil.which("unshare"):
-            raise Skipped("no unshare here")
+        needs("unshare")
         self.release()
         before, mounted, elsewhere = self.builds(), f"{self.room}/mounted", f"{self.room}/elsewhere"
         os.mkdir(mounted)
@@ -209,8 +208,7 @@ class Situations(Clone):
 
     def line_ends_are_kept(self):
         """Clones by a git that is asked to change line ends: the sources are the same, and the launcher runs."""
-        if not shutil.which("git"):
-            raise Skipped("no git here")
+        needs("git")
         git = ["git", "-c", "user.name=x", "-c", "user.email=x@x", "-c", "init.defaultBranch=main"]
         for attributes in (True, False):
             made, taken = f"{self.room}/made {attributes}", f"{self.room}/taken {attributes}"
