@@ -1,6 +1,6 @@
-"""Makes the libraries for C as they are shipped, each one file to link: `checks/run archive FOLDER` writes an archive for
-each of LIBRARIES there, libcubejobs_fit.a and so on, from what stands in the folders `out` of their crates. Of each it
-makes a shared object too, libcubejobs_fit.so and so on.
+"""Makes the libraries for C as they are shipped, each one file to link: `checks/run archive FOLDER` writes an archive
+for each of LIBRARIES there, libcubejobs_fit.a and so on, from what stands in the folders `out` of their crates. Of each
+it makes a shared object too, libcubejobs_fit.so and so on.
 
 A library that asks for memory gets the allocator of the toolchain, three functions round malloc, realloc and free. Of
 what a file defines, the functions of its header alone stay visible, so a program can link it beside another library of

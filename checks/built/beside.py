@@ -2,15 +2,15 @@
 answers. It is compiled with checks of overflow.
 
 `checks/run beside [--long] [--slips [NAME..]]`. In the gate it makes 100,000 calls of each library, and with `--long`
-1,000,000. With `--slips`, and with `--long`, it puts each slip of OF_ANSWERS into a copy of the text or of the shim, and
-must see a difference.
+1,000,000. With `--slips`, and with `--long`, it puts each slip of OF_ANSWERS into a copy of the text or of the shim,
+and must see a difference.
 
-A driver in Rattle makes 60,000 calls of the proved crates, and prints each answer. It runs by `rt try`, without a proof.
-Its own erased text runs over the erased crates, and must print the same. With `--slips` it must see those of SEEN_BY_THE_DRIVER. With
-`--long` an interpreter of Rattle runs it too, beside what the compiler of Rattle makes.
+A driver in Rattle makes 60,000 calls of the proved crates, and prints each answer. It runs by `rt try`, without a
+proof. Its own erased text runs over the erased crates, and must print the same. With `--slips` it must see those of
+SEEN_BY_THE_DRIVER. With `--long` an interpreter of Rattle runs it too, beside what the compiler of Rattle makes.
 
-A self-test makes 300,000 calls of the Rust package, and gives a number that depends on each answer. Both forms must give
-the same one. With `--long` it must be the same on other processors, and in WebAssembly by node.
+A self-test makes 300,000 calls of the Rust package, and gives a number that depends on each answer. Both forms must
+give the same one. With `--long` it must be the same on other processors, and in WebAssembly by node.
 
 With `--long` ThreadSanitizer watches plain memory that blocks and jobs guard, where `rustc +nightly` has it. The same
 program with relaxed orders in the shim must be seen. The tests of the Rust package run on other processors, by
@@ -99,7 +99,8 @@ def differs(slip):
 
 
 def driver_sources():
-    """Returns the texts of the driver by name. Its files end in .in, since `rt ci` refuses sources that no crate has."""
+    """Returns the texts of the driver by name. Its files end in .in, since `rt ci` refuses sources that no crate
+    has."""
     names = sorted(it for it in os.listdir(path(DRIVER)) if it.endswith(".rt.in"))
     return {name.removesuffix(".rt.in"): read(DRIVER, name) for name in names}
 

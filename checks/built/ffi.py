@@ -1,24 +1,25 @@
 """Calls the proved libraries for C from C (with the compiler's checks of addresses and undefined behaviour, and of
 races), from C++ and from Rust.
 
-Of the rounds of collectives: each step and message on up to 128 ranks, beside the textbook's rules, and the results that
-they give. Commands are pinned to blocks of CPUs. Of exact first fit: 100,000 random calls on each of 13 machines, beside
-a plain model; each call over random bytes; and processes that are killed inside a call. Of the regions with no lock: each
-code where it must come, handles that are shut, foreign or of the wrong kind, eight threads with a table of counters and
-with plain memory that blocks guard, and each request for memory refused in turn. Threads release blocks of others, and
-wait for blocks, and so do processes that share memory. Of the lanes: the same, beside lists. Sixteen producers pass jobs
-to eight workers. Workers and submits sleep, also in random programs and in scripted orders of threads. Of the scheduler for
-threads: each call, crowds and random programs of threads, and races of deadlines, places and closes. Wrong libraries, and
-headers with a fault, must be seen. The examples are built and run. A language whose compiler is not there is skipped.
+Of the rounds of collectives: each step and message on up to 128 ranks, beside the textbook's rules, and the results
+that they give. Commands are pinned to blocks of CPUs. Of exact first fit: 100,000 random calls on each of 13 machines,
+beside a plain model; each call over random bytes; and processes that are killed inside a call. Of the regions with no
+lock: each code where it must come, handles that are shut, foreign or of the wrong kind, eight threads with a table of
+counters and with plain memory that blocks guard, and each request for memory refused in turn. Threads release blocks of
+others, and wait for blocks, and so do processes that share memory. Of the lanes: the same, beside lists. Sixteen
+producers pass jobs to eight workers. Workers and submits sleep, also in random programs and in scripted orders of
+threads. Of the scheduler for threads: each call, crowds and random programs of threads, and races of deadlines, places
+and closes. Wrong libraries, and headers with a fault, must be seen. The examples are built and run. A language whose
+compiler is not there is skipped.
 
 The libraries of plain Rust (`rust/c`) are called too, in the gate by the plainest programs.
 
 `checks/run ffi [--after-gate] [--libraries FOLDER] [--source] [--long] [--seconds N] [--only WORD]`. With `--source` it
-calls only the libraries of plain Rust, by all programs. With `--libraries` it takes the archives of a folder, and builds
-none. With `--after-gate` it takes the libraries below as `rt ci` has just left them. With `--long` it makes more than
-10^7 calls of first fit and 1,000 kills, 10^8 takes of the regions, and passes 10^7 jobs by lanes and by the scheduler.
-Regions, jobs and the scheduler run under each sanitizer for N seconds each, or half an hour. With `--only` it runs the
-rows whose names have the word.
+calls only the libraries of plain Rust, by all programs. With `--libraries` it takes the archives of a folder, and
+builds none. With `--after-gate` it takes the libraries below as `rt ci` has just left them. With `--long` it makes more
+than 10^7 calls of first fit and 1,000 kills, 10^8 takes of the regions, and passes 10^7 jobs by lanes and by the
+scheduler. Regions, jobs and the scheduler run under each sanitizer for N seconds each, or half an hour. With `--only`
+it runs the rows whose names have the word.
 """
 import os
 import shutil

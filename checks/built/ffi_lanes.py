@@ -1,4 +1,5 @@
-"""Rows of the lanes (a part of ffi): jobs that pass, workers and submits that sleep, crowds, and faults of the headers."""
+"""Rows of the lanes (a part of ffi): jobs that pass, workers and submits that sleep, crowds, and faults of the
+headers."""
 from checks.lib.c_programs import (
     ADDRESSES, C, CALLS, CHECKED, CLANG, CLANG_20, CONDITION, CXX, CXX_17, CXX_20, FIT, HELGRIND, LANES, MARKED,
     OWN_MALLOC, PLAN, RACE, RACES, RACES_20, REGIONS, SCHED, WATCHED, Program, must_be_seen, must_run, shim, unlike)

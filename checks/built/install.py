@@ -1,10 +1,10 @@
 """Installs what was built into a folder of its own, uses it as an installed package is used, and uninstalls it.
 
-`checks/run install FOLDER` makes a clone whose release/ has the files of FOLDER, runs its `./install`, and then compiles
-and runs examples with pkg-config, CMake, cargo and Python, without a file of the clone. Each example in Rust runs in a
-package of a user, over the libraries and as plain Rust. A part whose tool is missing is skipped and named. In the end
-nothing may be left. Bad options, a damaged file and a folder that cannot be written end with their status, and change
-nothing.
+`checks/run install FOLDER` makes a clone whose release/ has the files of FOLDER, runs its `./install`, and then
+compiles and runs examples with pkg-config, CMake, cargo and Python, without a file of the clone. Each example in Rust
+runs in a package of a user, over the libraries and as plain Rust. A part whose tool is missing is skipped and named. In
+the end nothing may be left. Bad options, a damaged file and a folder that cannot be written end with their status, and
+change nothing.
 """
 import copy
 import hashlib

@@ -1,5 +1,5 @@
-"""Runs what passes jobs in bench/jobs: the lanes by their library, by hand, and a queue of crossbeam where cargo has its
-crates. Each job must come out once, and in order: `bench/lanes_c --check`, which times nothing.
+"""Runs what passes jobs in bench/jobs: the lanes by their library, by hand, and a queue of crossbeam where cargo has
+its crates. Each job must come out once, and in order: `bench/lanes_c --check`, which times nothing.
 """
 import subprocess
 

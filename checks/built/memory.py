@@ -162,8 +162,8 @@ def refuse_each(built, shims, arguments, text, counts):
 
 
 def refuse_second_line(built, shims):
-    """Refuses each request of a command that refuses its file, with a terminal as standard error. It shows the two lines
-    of such a file, or the first of them, or that memory ran out."""
+    """Refuses each request of a command that refuses its file, with a terminal as standard error. It shows the two
+    lines of such a file, or the first of them, or that memory ran out."""
     first, second = b"refused: record 1: Word\n", b'  line 2, field command: "give"; wanted: take or free\n'
     with tempfile.TemporaryDirectory() as folder:
         put(os.path.join(folder, INPUT_FILE), b"command,name,dim\ngive,a,-\n")
@@ -192,8 +192,8 @@ def refuse_second_line(built, shims):
 
 
 def must_reserve_events(built, shims):
-    """Sees that the room for all events is asked for before the first thread starts: it counts the bytes that a run asks
-    for before that, with events and without."""
+    """Sees that the room for all events is asked for before the first thread starts: it counts the bytes that a run
+    asks for before that, with events and without."""
     text, sizes = HEADER.encode() + LONG * b"0,allreduce,add,0,1\n1,allreduce,add,0,1\n", []
     with tempfile.TemporaryDirectory() as folder:
         for more in ("", f" --events {EVENTS_FILE}"):

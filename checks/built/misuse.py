@@ -1,7 +1,8 @@
 """Sees wrong use of the libraries for C, and what helps to find it (a part of ffi).
 
-A program with CUBEJOBS_CHECK refuses old copies of handles, and does not link with a file that lacks it. Two plug-ins refuse
-each other's blocks. ThreadSanitizer sees two threads with one handle. A crash inside plain Rust has a whole backtrace.
+A program with CUBEJOBS_CHECK refuses old copies of handles, and does not link with a file that lacks it. Two plug-ins
+refuse each other's blocks. ThreadSanitizer sees two threads with one handle. A crash inside plain Rust has a whole
+backtrace.
 """
 import os
 

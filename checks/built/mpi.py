@@ -2,9 +2,9 @@
 a folder, or those of release/.
 
 It runs 500 random jobs of every kind, by rounds and by MPI's own collectives, and compares the bytes with those of
-`cubejobs run`. Each decision that the trace has must be that of the plain model of the planner. The messages of each job
-must be those of the textbook's trees and exchanges. Ctrl-C must cancel what waits. Wrong programs must be seen, and bad
-files named by line and field. It is skipped where mpicc or mpirun is not there.
+`cubejobs run`. Each decision that the trace has must be that of the plain model of the planner. The messages of each
+job must be those of the textbook's trees and exchanges. Ctrl-C must cancel what waits. Wrong programs must be seen, and
+bad files named by line and field. It is skipped where mpicc or mpirun is not there.
 """
 import collections
 import os

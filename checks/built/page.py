@@ -4,8 +4,8 @@ and the examples in the page, with `--draw` and `--module` also the library in t
 What the page shows after each event of a schedule is compared with a replay that is cut there: the words with its end
 rows, the row, and that there is a sentence for it. What it shows after each command of `place` is compared with the
 rows. Files that are no output of the program must each be refused with a reason. The rules of the tree must accept each
-row of random schedules, and name each row that was altered. The proved library in the page must be the one that
-the toolchain builds from crates/cubejobs_fit, and answer 10,000 calls as `place` does. The pictures of docs/ must be those
+row of random schedules, and name each row that was altered. The proved library in the page must be the one that the
+toolchain builds from crates/cubejobs_fit, and answer 10,000 calls as `place` does. The pictures of docs/ must be those
 that the page draws.
 
 The scripts of the page run under node; where there is a Chromium, the page itself is opened in it too: at several
@@ -254,7 +254,8 @@ def check_paths(built):
 
 
 def check_library(built, writes):
-    """Compares the library in the page with the one that the toolchain builds, and its answers with those of `place`."""
+    """Compares the library in the page with the one that the toolchain builds, and its answers with those of
+    `place`."""
     chance, commands = random.Random(2), []
     for _ in range(10000):
         name = f"n{chance.randrange(70)}"

@@ -1,8 +1,8 @@
 """Plays random events on the scheduler in its source form and on a plain model of it, and compares all answers.
 
 `checks/run plan [--long]` builds plan.rs over `rust/src/source`. It plays 60,000 events, and with `--long` 1,000,000:
-machines of up to 256 processors, jobs of all classes, jobs into slots by name, blocks that go out of service and return,
-jobs that end late, full tables. plan_model.py is the model.
+machines of up to 256 processors, jobs of all classes, jobs into slots by name, blocks that go out of service and
+return, jobs that end late, full tables. plan_model.py is the model.
 
 It must see slips.
 """

@@ -1,5 +1,5 @@
-"""Plays the planner beside a plain model of its rules: `checks/run plan_calls FOLDER [SEED PLANNERS CALLS]`, where FOLDER
-has the archive.
+"""Plays the planner beside a plain model of its rules: `checks/run plan_calls FOLDER [SEED PLANNERS CALLS]`, where
+FOLDER has the archive.
 
 plan_calls.c makes random calls and prints each one with its answer. Here plan_model.py answers the same calls, and each
 line must agree in all its numbers. It is run as C and as C++, with the compiler's checks of addresses, also of memory

@@ -23,8 +23,8 @@ WIDTH, HEIGHT = LEFT + HOURS * UNIT + 16, TOP + ROW * 2**DIM + 96
 
 
 def plan():
-    """Returns where each job runs, as (name, word, base, processors, start, end), and the reservation, as (base, processors,
-    time, promise)."""
+    """Returns where each job runs, as (name, word, base, processors, start, end), and the reservation, as (base,
+    processors, time, promise)."""
     model, found, ends, kept, names = Model(DIM, len(JOBS), 16), [], [], None, {}
     for now in range(HOURS):
         for end, arrival in [it for it in ends if it[0] == now]:

@@ -1,14 +1,15 @@
 """Counts what calls do and no clause counts: every atomic access, also one that leaves no record, and the joins of a
 collective.
 
-`checks/run steps [--long]` makes 40,000 random calls of each structure in the source form (`rust/src/source`), by 1 to 8
-threads, and with `--long` 1,000,000: of the bitmap tree, of lanes of jobs, and of the tree of status words, which it
+`checks/run steps [--long]` makes 40,000 random calls of each structure in the source form (`rust/src/source`), by 1 to
+8 threads, and with `--long` 1,000,000: of the bitmap tree, of lanes of jobs, and of the tree of status words, which it
 erases itself. Each call must make at most the number of atomic accesses that the pages state (docs/REGIONS.md,
 docs/LANES.md and docs/ALGORITHM.md). The words of the sources are put under a type that counts each access of a thread.
 A collective must make exactly the joins of the rounds of its tally. Threads stop in the middle of a call of lanes, and
 others go on.
 
-It must see slips, most of them calls that make loads more: each second one of OF_STEPS in the gate, and with `--long` all.
+It must see slips, most of them calls that make loads more: each second one of OF_STEPS in the gate, and with `--long`
+all.
 """
 import os
 import re

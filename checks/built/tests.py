@@ -1,8 +1,8 @@
 """Runs the tests of `tests/`, which are in Rattle and have no proof: `checks/run tests [NAME..]`.
 
 A proof of a test shows only that the test itself is safe, and takes ten times as long as a run. So these tests run by
-`rt try --test`, over the sources as they stand. `tests/uses.txt` has the crates that each one uses. A call that breaks a
-`requires` is seen in part, so no test makes one.
+`rt try --test`, over the sources as they stand. `tests/uses.txt` has the crates that each one uses. A call that breaks
+a `requires` is seen in part, so no test makes one.
 """
 import concurrent.futures
 import os

@@ -31,8 +31,8 @@ CRATES = (
     "bitmap_occupancy", "cubejobs_regions", "wake_pool", "wake_calls", "job_lanes", "kept_places", "cubejobs_lanes",
     "sched_law", "block_trees", "wait_queue", "sched_blocks", "sched_jobs", "sched_core", "sched_request", "cubejobs_plan",
     "sched_pool", "sched_board", "sched_threads", "cubejobs_sched")
-# The crates of the tree of status words, and the collectives as a whole. Only the check `steps` erases them, without the
-# pure machine, the text and the flags of a word.
+# The crates of the tree of status words, and the collectives as a whole. Only the check `steps` erases them, without
+# the pure machine, the text and the flags of a word.
 TREE = ("status_word", "cube_core", "tree_steps", "cube_tree", "collectives")
 LEFT_OUT = (
     (r"    /// Returns the word as text.*?\n}\n(?=\n/// Proves)", "}\n"), (r"    /// Returns the bits of use\..*?\n    }\n\n", ""),
@@ -45,7 +45,8 @@ UNUSED = (*(f"collectives/{it}" for it in ("collective", "monoid", "operations",
           "sched_threads/law")
 # Modules of a crate that only some features of the package need, with the condition.
 GATED = {"fit_tree/fit": 'any(feature = "plan", feature = "sched")'}
-# Files with raw pointers, and the module and the type of what each points to. Each has the type below instead, of the shim.
+# Files with raw pointers, and the module and the type of what each points to. Each has the type below instead, of the
+# shim.
 OPAQUE = {
     "cubejobs_lanes/opaque_ptr": ("state", "State"), "cubejobs_regions/opaque_ptr": ("state", "State"),
     "cubejobs_plan/opaque_ptr": ("planner", "Planner"), "cubejobs_sched/opaque_ptr": ("state", "State")}
@@ -56,8 +57,8 @@ use {KIT}::opaque::Opaque;
 
 pub(crate) type OpaquePtr = Opaque<CONTENT>;
 """
-# For a text of a source, another one. A handle that is shut is a constant of the Rust package. What is proved of constants
-# is tested here.
+# For a text of a source, another one. A handle that is shut is a constant of the Rust package. What is proved of
+# constants is tested here.
 MENDED = (
     ("bitmap_tree/steps", "pub fn blank() -> HiddenSeat", "pub const fn blank() -> HiddenSeat"),
     ("sched_jobs/slots", "const _: () = prove!(", "const _: () = assert!("),

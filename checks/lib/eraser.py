@@ -1,4 +1,5 @@
-"""The rules of the eraser: what it leaves out of a tree of tokens, keeps and puts in. The head of erase.py states them."""
+"""The rules of the eraser: what it leaves out of a tree of tokens, keeps and puts in. The head of erase.py states
+them."""
 import re
 from typing import NamedTuple
 

@@ -2,8 +2,8 @@
 
 It reads README.md, docs/C.md, docs/RUST.md, docs/LANES.md, docs/REGIONS.md, docs/SCHEDULER.md and the headers of
 `include`, and finds each sentence that says "proved", "never", "each" or "at most". The file `tests/claims.txt` lists
-them by page. An entry is the beginning of a sentence, with code and links as they are written, and then, on a line that is
-set in, what carries it, parted by semicolons:
+them by page. An entry is the beginning of a sentence, with code and links as they are written, and then, on a line that
+is set in, what carries it, parted by semicolons:
 
     CRATE: FUNCTION CLAUSE    a clause of a function, which must have it
     CRATE: NAME               a definition, or a type, of a crate
@@ -12,8 +12,8 @@ set in, what carries it, parted by semicolons:
     a duty                    what the caller must keep
     a description             what the thing is or how it works, and no promise
 
-A sentence without an entry, an entry without a sentence, and a carrier that is not there fail. `checks/run claims --list`
-prints the sentences without an entry, each with its page.
+A sentence without an entry, an entry without a sentence, and a carrier that is not there fail. `checks/run claims
+--list` prints the sentences without an entry, each with its page.
 """
 import glob
 import os

@@ -1,8 +1,8 @@
 """Fails where a source, a definition or a proof writes the number of a limit and not its name.
 
-It reads the limits (src/limits.rt of cube_shape and region_bits, src/sizes.rt of job_lanes), and looks in all crates for
-each literal that is such a number or a power of interest, or one less or more, in whatever form: `1024`, `0x400`, `1 <<
-10`. A limit whose name an earlier file has too is called by its crate: `job_lanes::MAX_LANES`. Comments do not
+It reads the limits (src/limits.rt of cube_shape and region_bits, src/sizes.rt of job_lanes), and looks in all crates
+for each literal that is such a number or a power of interest, or one less or more, in whatever form: `1024`, `0x400`,
+`1 << 10`. A limit whose name an earlier file has too is called by its crate: `job_lanes::MAX_LANES`. Comments do not
 count, nor do tests, whose rows are worked by hand. OTHERS says what else such a number may be; an entry that no literal
 needs fails too, and so does a limit without a sentence. C, Rust, the page and documents cannot name a limit: WRITTEN
 says where they write it out, and each of these numbers must be that of its limit. So does OF_OTHERS of limits of other

@@ -1,5 +1,5 @@
-"""Finds locks in the sources of the queue, of both trees, of the libraries of regions and of the scheduler for threads, and
-of job lanes with their calls of sleep and wake: `line_ruled`, `floor_tree`, `floor_bitmap`, `cubejobs_regions`,
+"""Finds locks in the sources of the queue, of both trees, of the libraries of regions and of the scheduler for threads,
+and of job lanes with their calls of sleep and wake: `line_ruled`, `floor_tree`, `floor_bitmap`, `cubejobs_regions`,
 `cubejobs_sched`, `cubejobs_lanes`, `wake_calls` and all below.
 
 No contract says this of a call that may wait: a lock around it changes neither its result nor what it records. It finds

@@ -44,7 +44,8 @@ def number_of(version):
 
 
 def order(version):
-    """Returns a version as numbers, of which a larger one is later. `-dev` comes before the release that it leads to."""
+    """Returns a version as numbers, of which a larger one is later. `-dev` comes before the release that it leads
+    to."""
     *parts, development = re.fullmatch(VERSION, version).groups()
     return [*map(int, parts), 0 if development else 1]
 

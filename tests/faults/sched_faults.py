@@ -1,7 +1,7 @@
 """What may be wrong with cubejobs_sched.hpp and with the naps of cubejobs_sched.h (a part of ffi).
 
-Without one of these lines an owner ends what is not its own, or leaves what is. sched_owners.cpp must see it. Or a thread
-that naps loses a wake, which sched_random.c must see.
+Without one of these lines an owner ends what is not its own, or leaves what is. sched_owners.cpp must see it. Or a
+thread that naps loses a wake, which sched_random.c must see.
 """
 from checks.lib.c_programs import RACE
 from tests.faults.wait_faults import LOST

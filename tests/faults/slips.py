@@ -3,8 +3,8 @@ from typing import NamedTuple
 
 
 class Slip(NamedTuple):
-    """A slip: its name, a file below `rust/src/source` or of the tree, a text of it, and what is put there. Then a text of
-    the error that it must cause, for those of `steps`."""
+    """A slip: its name, a file below `rust/src/source` or of the tree, a text of it, and what is put there. Then a text
+    of the error that it must cause, for those of `steps`."""
 
     name: str
     file: str
@@ -38,8 +38,8 @@ OF_ANSWERS = (
 SEEN_BY_THE_DRIVER = [it for it in OF_ANSWERS if it.name not in (
     "the swap returns the new word", "a slot stays taken", "an end that is late is not known", "a closed scheduler takes jobs")]
 
-# Those of `checks/run steps`: a call must make too many accesses. The gate tries each second one: one of each structure,
-# and the last.
+# Those of `checks/run steps`: a call must make too many accesses. The gate tries each second one: one of each
+# structure, and the last.
 OF_STEPS = (
     Slip("a release loads a word often", "bitmap_tree/releases.rs", "        self.release_region(&mut seat, region);\n",
          "        for _ in 0..200 { self.peek(0); }\n        self.release_region(&mut seat, region);\n"),

@@ -4,9 +4,9 @@ from checks.source import version
 # The examples in C and C++ that end by themselves, with the words that they need. Their output is beside them.
 EXAMPLES = ("arena.c", "blocks.cpp", "fit.c", "lanes.c", "lanes.cpp", "plan.c", "regions.c", "rounds.c", "sched.c", "tasks.cpp",
             "wait.c")
-# The examples in Rust, with what each prints. In `blocks` there are 800 blocks each of 1, 2, 4, 8 and 16 processors, and
-# in `park` the payloads 1 to 10 are added up. In `global_alloc` each of 4 threads makes vectors of 1 + 7t mod 3000 bytes for
-# each t below 10,000.
+# The examples in Rust, with what each prints. In `blocks` there are 800 blocks each of 1, 2, 4, 8 and 16 processors,
+# and in `park` the payloads 1 to 10 are added up. In `global_alloc` each of 4 threads makes vectors of 1 + 7t mod 3000
+# bytes for each t below 10,000.
 IN_RUST = {
     "jobs": "40 jobs ran on 248 processors in all\n", "first_fit": "0..2 4..8, then: a part of each block of this dimension is in use\n",
     "groups": "3000 jobs on groups of 16 workers\n", "blocks": "4000 blocks with 24800 processors in all\n",

@@ -1,7 +1,8 @@
 """Opens view/index.html in a Chromium and uses it as a person does, for `checks/run page`.
 
 It reads elements and never pixels: what is shown at several events of each schedule, the cards, a click on the strip, a
-drag over a timeline, keys, the panel, widths of 1,280 and 360 px in both themes, print, and how long a large file takes.
+drag over a timeline, keys, the panel, widths of 1,280 and 360 px in both themes, print, and how long a large file
+takes.
 """
 import json
 import os

@@ -1,5 +1,5 @@
-"""Random programs over planners beside the plain model of their rules, and small programs on what the module promises of
-them: `python3 plans.py SEED CALLS`, and `python3 plans.py NAME`."""
+"""Random programs over planners beside the plain model of their rules, and small programs on what the module promises
+of them: `python3 plans.py SEED CALLS`, and `python3 plans.py NAME`."""
 import copy
 import gc
 import pickle
