@@ -70,7 +70,8 @@ def compile_crate(crate, out):
     """Builds a library or the program for aarch64, with what `rt` has kept of its proof."""
     kept = ["--incremental", "out/incremental"] if os.path.isdir(f"{crate.folder}/out/incremental") else []
     words = [kit().RATTLE, "build", *crate.words(["--jobs", "1"], keeps=False), *kept, "--target", TRIPLE]
-    status, said, more = answer([*words, "--toolchain", f"{kit().KIT}/toolchain", "-o", out], cwd=crate.folder, timeout=SECONDS)
+    status, said, more = answer([*words, "--toolchain", f"{kit().KIT}/toolchain", "-o", out], cwd=crate.folder,
+                                timeout=SECONDS)
     must(status == 0, f"{crate.name} was not built for aarch64: {(said + more).decode(errors='replace')[-600:]}")
 
 
@@ -97,7 +98,8 @@ def compare(folder):
     if held.said("sources") != sum_of_sources():
         raise Skipped("the files of release/ are of other sources; to renew them: checks/run aarch64 --renew FOLDER")
     if held.said("linked with") != packages():
-        raise Skipped(f"release/ was linked with {held.said('linked with')}, and here is {packages() or 'none of these'}")
+        here = packages() or "none of these"
+        raise Skipped(f"release/ was linked with {held.said('linked with')}, and here is {here}")
     faults = [*held.faults(folder)]
     must(not faults, "; ".join(faults))
 
@@ -121,7 +123,8 @@ def programs():
                                  ("sched", SCHED, ["one"]), ("sched", SCHED, ["crowd", "1", "4", "8", "2000"])):
         yield Program(CALLS(name), [library], C, (), words, [EMULATOR])
     # Not examples/fit.c: the emulator has no robust locks. There the lock of a process that died stays locked for ever.
-    for name, library in (("rounds", ROUNDS), ("plan", PLAN), ("sched", SCHED), ("regions", REGIONS), ("arena", REGIONS),
+    for name, library in (("rounds", ROUNDS), ("plan", PLAN), ("sched", SCHED), ("regions", REGIONS),
+                          ("arena", REGIONS),
                           ("wait", REGIONS), ("lanes", LANES)):
         yield Program(f"examples/{name}.c", [library], C, (), (), [EMULATOR], f"examples/{name}.out")
     yield Program("examples/lanes.cpp", [LANES], CXX, (), (), [EMULATOR], "examples/lanes.out")
@@ -161,7 +164,8 @@ def rows(folder):
                   ["report", "--dim", "3", f"{examples}/jobs.csv"], ["place", "--dim", "3", f"{examples}/place.csv"],
                   ["replay", f"{examples}/schedule.csv", "--dim", "2", "--stations", "3"], ["run", "--dim", "13"],
                   ["run", "--dim", "3", "missing.csv"], ["help"], []):
-        yield Row(f"cubejobs {' '.join(os.path.basename(it) for it in words)} on aarch64", must_be_as_here, (folder, built, words))
+        yield Row(f"cubejobs {' '.join(os.path.basename(it) for it in words)} on aarch64", must_be_as_here,
+                  (folder, built, words))
 
 
 def renew(folder):

@@ -204,7 +204,8 @@ def self_test(compiler, form, runner, *words):
         library, program = f"{folder}/libcubejobs.rlib", f"{folder}/selftest"
         common = ["nice", compiler, "--edition=2021", "-O", f"-Lnative={path(RELEASE)}"]
         target = [it for it in words if it.startswith("--target")]
-        package = ["--crate-name=cubejobs", "--crate-type=rlib", *features, *target, path("rust/src/lib.rs"), "-o", library]
+        package = ["--crate-name=cubejobs", "--crate-type=rlib", *features, *target, path("rust/src/lib.rs")]
+        package += ["-o", library]
         for made in (package, [*words, f"--extern=cubejobs={library}", path(SELF_TEST), "-o", program]):
             status, _, err = answer([*common, *made], "", timeout=SECONDS, text=True)
             must(status == 0 and "warning" not in err, f"rustc: {err[:2000]}")
@@ -261,8 +262,8 @@ def main(words):
                              Row("a driver in Rattle and its erased text", prints_the_same, (STEPS if is_long else 1,))]
     if is_long or "--slips" in words:
         rows += [Row(it.name, differs, (it,)) for it in OF_ANSWERS if not names or it.name in names]
-        rows += [Row(f"by the driver: {it.name}", prints_another, (STEPS if is_long else 1, it)) for it in SEEN_BY_THE_DRIVER
-                 if not names or it.name in names]
+        rows += [Row(f"by the driver: {it.name}", prints_another, (STEPS if is_long else 1, it))
+                 for it in SEEN_BY_THE_DRIVER if not names or it.name in names]
     if is_long:
         for what in ("blocks", "lanes"):
             rows.append(Row(f"no race beside {what}", watched, (what, [])))

@@ -26,7 +26,8 @@ def pass_jobs(each):
     """Has each producer submit this number of jobs."""
     words = [BENCH, str(THREADS), str(WORKERS), str(CAPACITY), str(each)]
     status, out, said = answer(words, timeout=SECONDS)
-    must(status == 0 and out.decode() == f"{THREADS * each} {THREADS * each} 0\n", f"status {status}, {out!r}, {said!r}")
+    must(status == 0 and out.decode() == f"{THREADS * each} {THREADS * each} 0\n",
+         f"status {status}, {out!r}, {said!r}")
 
 
 def main(words):

@@ -135,7 +135,8 @@ def rows_of_sources(room, longer, seconds, is_short):
     """Yields the rows over the libraries of plain Rust. In short they are programs that must end well, by gcc and with
     nothing that watches them."""
     for row in rows(room, longer, seconds):
-        is_plain = row.act is must_run and row.arguments[1].compiler[0] in ("gcc", "g++") and not row.arguments[1].placed
+        program = row.arguments[1] if row.act is must_run else None
+        is_plain = program is not None and program.compiler[0] in ("gcc", "g++") and not program.placed
         if not row.name.startswith(OF_ARCHIVES) and (is_plain or not is_short):
             yield row._replace(name=f"plain Rust: {row.name}")
 

@@ -155,7 +155,8 @@ class Place(Used):
     def for_a_package(self):
         """With --destdir the same files go below a folder, and name the prefix alone."""
         package = os.path.join(self.work, "package")
-        self.must_install("--prefix", "/usr", "--libdir", "/usr/lib/64", "--pythondir", "/usr/lib/py", "--destdir", package)
+        folders = "--prefix", "/usr", "--libdir", "/usr/lib/64", "--pythondir", "/usr/lib/py"
+        self.must_install(*folders, "--destdir", package)
         must("package" not in read(package, "usr/lib/64/pkgconfig/cubejobs_fit.pc"), "the package names the folder")
         must(os.path.exists(f"{package}/usr/lib/py/cubejobs/py.typed"), "the Python module is elsewhere")
         self.must_install("--prefix", "/usr", "--destdir", package, "--uninstall")
@@ -181,7 +182,8 @@ class Place(Used):
             shutil.rmtree(there)
 
     def damaged(self):
-        target, file = os.path.join(self.work, "damaged"), os.path.join(self.clone, "release/linux-x86_64/libcubejobs_fit.a")
+        target = os.path.join(self.work, "damaged")
+        file = os.path.join(self.clone, "release/linux-x86_64/libcubejobs_fit.a")
         with open(file, "r+b") as it:
             first = it.read(1)
             it.seek(0)
@@ -208,7 +210,8 @@ class Place(Used):
         room, target = self.room("tools"), os.path.join(self.work, "few")
         names = [it for it in output(["dpkg", "-L", "coreutils"]).split() if re.fullmatch(r"(/usr)?/bin/[^/]+", it)]
         for name in [*names, "/bin/sh"]:
-            os.symlink(os.path.realpath(shutil.which(os.path.basename(name))), os.path.join(room, os.path.basename(name)))
+            os.symlink(os.path.realpath(shutil.which(os.path.basename(name))),
+                       os.path.join(room, os.path.basename(name)))
         for words in ([], ["--uninstall"]):
             status, _, said = self.install("--prefix", target, *words, env={"PATH": room})
             must(status == 0 and not said, f"status {status}, {said!r}")
@@ -231,10 +234,12 @@ def rows(place):
                 place.with_cargo_doc, place.as_packages,
                 place.with_python, place.with_man, place.again, place.of_a_later_version, place.uninstalled,
                 place.parts_together, place.parts_of_a_later_version, place.used_by_python,
-                place.for_a_package, place.for_another_processor, place.damaged, place.without_rights, place.with_few_tools):
+                place.for_a_package, place.for_another_processor, place.damaged, place.without_rights,
+                place.with_few_tools):
         yield Row(act.__name__.replace("_", " "), act)
     for words, wanted, saying in ((["--prefx", "/x"], 2, "no option --prefx"), (["--prefix"], 2, "needs a folder"),
-                                  (["--prefix", "here"], 2, "begins with /"), (["--prefix", "/a\nb"], 2, "a line break"),
+                                  (["--prefix", "here"], 2, "begins with /"),
+                                  (["--prefix", "/a\nb"], 2, "a line break"),
                                   (["--processor"], 2, "needs a name"), (["--only"], 2, "needs a part"),
                                   (["--only", "c rust"], 2, "no part c rust"),
                                   (["--only", "nonsense"], 2, "the parts are c rust python program docs"),

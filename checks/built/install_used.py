@@ -172,7 +172,8 @@ class Used:
         needs("cargo", "cc")
         env = {**os.environ, "CARGO_TARGET_DIR": os.path.join(self.work, "cargo-doc")}
         words = ["cargo", "test", "--quiet", "--offline", "--doc"]
-        status, said, more = answer(words, "", text=True, cwd=self.of("share", "cubejobs", "rust"), env=env, timeout=300)
+        status, said, more = answer(words, "", text=True, cwd=self.of("share", "cubejobs", "rust"), env=env,
+                                    timeout=300)
         must(status == 0 and re.search(r"ok\. [1-9]\d passed; 0 failed", said), (said + more)[-600:])
 
     def as_packages(self):
@@ -185,7 +186,8 @@ class Used:
         env = {**os.environ, "CARGO_TARGET_DIR": f"{room}/target", "CARGO_TERM_COLOR": "never"}
         words = ["cargo", "package", "--offline", "--workspace", "--exclude", "cubejobs-c", "--allow-dirty"]
         status, _, said = answer(words, "", text=True, cwd=f"{room}/rust", env=env, timeout=300)
-        warned = [it for it in re.findall(r"^warning: (.*)$", said, re.M) if not it.startswith("manifest has no license")]
+        warned = [it for it in re.findall(r"^warning: (.*)$", said, re.M)
+                  if not it.startswith("manifest has no license")]
         must(status == 0 and not warned, f"cargo package: status {status}, {warned}, {said[-600:]}")
 
     def with_python(self):

@@ -66,7 +66,8 @@ def declarations(text):
     for found in ENTRY.finditer(text):
         names = [it for it in FUNCTION.finditer(found["code"])]
         if names:
-            shown = [re.sub(r"^static |\b(?:[A-Z_]*INLINE|inline)\b ?|__attribute__\(\(\w+\)\) ?", "", it[0]) + ";" for it in names]
+            shown = [re.sub(r"^static |\b(?:[A-Z_]*INLINE|inline)\b ?|__attribute__\(\(\w+\)\) ?", "", it[0]) + ";"
+                     for it in names]
             yield [it[1] for it in names], list(map(wrapped, shown)), plain(found["says"])
 
 
@@ -102,7 +103,8 @@ def left_out(library):
     names = {it[1] for it in FUNCTION.finditer(COMMENT.sub("", text)) if not INNER.search(it[1])}
     if library in WITHOUT_CODES:
         shown = [names[0] for names, _, says in declarations(text) if "Codes:" in says]
-        names = {*WITHOUT_CODES[library], *shown, *(["a function with codes"] if len(shown) != text.count("Codes:") else [])}
+        names = {*WITHOUT_CODES[library], *shown,
+                 *(["a function with codes"] if len(shown) != text.count("Codes:") else [])}
     return sorted(it for it in names if f" {it}(" not in page(library).replace("*", " ").replace("\n    ", " "))
 
 

@@ -120,7 +120,8 @@ class Command:
 
     def may_fail_by(self, got, wanted):
         status, out, said, *files = got
-        named = [f"failed: {side}: OutOfMemory: {name}\n".encode() for side, name in SIDES.items() if name in self.words]
+        named = [f"failed: {side}: OutOfMemory: {name}\n".encode()
+                 for side, name in SIDES.items() if name in self.words]
         # The output is in place before the events, so it may be whole where these could not be put in place.
         is_late = self.written == [OUTPUT_FILE, EVENTS_FILE] and said == named[-1]
         is_kept = files == [OLD] * len(files) or (is_late and files == [wanted[3], OLD])

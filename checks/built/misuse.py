@@ -102,7 +102,8 @@ def rows(room, regions, lanes, exact, plan):
     yield Row("the owners of C++ in a checking build", owners_are_checked, (room, regions, lanes, exact, plan))
     for linker in LINKERS:
         for order in ((0, 1, 2), (2, 1, 0), (1, 2, 0)):
-            yield Row(f"files with and without checks by {linker}, {order}", does_not_mix, (room, regions, linker, order))
+            yield Row(f"files with and without checks by {linker}, {order}", does_not_mix,
+                      (room, regions, linker, order))
     yield Row("two plug-ins", plugins_are_apart, (room, regions))
     yield Row("two threads with one handle of regions", one_handle_is_seen, (room, regions, ()))
     yield Row("two threads with one worker of lanes", one_handle_is_seen, (room, lanes, ("-DONE_WORKER",)))

@@ -103,7 +103,8 @@ class Plan:
 
     def start(self, job, base, now):
         code, told = self.model.next(now)
-        must(code == DONE and (told[8], told[1]) == (job, base), f"job {job} starts at {base}, and the model says {told}")
+        must(code == DONE and (told[8], told[1]) == (job, base),
+             f"job {job} starts at {base}, and the model says {told}")
         self.most = max(self.most, self.model.counts()[1])
 
     def rest(self, now):
@@ -150,13 +151,15 @@ def must_stop(program, room, text):
     words = ["mpirun", *(OF_OPEN_MPI if is_open_mpi() else []), "-n", str((1 << DIM) + 1), program]
     words += ["--trace", f"{room}/stopped", "--out", f"{room}/out", f"{room}/many.csv"]
     with subprocess.Popen(words, env={**os.environ, **QUIET}, stderr=subprocess.DEVNULL) as ran:
-        must(comes(lambda: os.path.exists(f"{room}/stopped") and os.path.getsize(f"{room}/stopped"), SECONDS), "no job starts")
+        must(comes(lambda: os.path.exists(f"{room}/stopped") and os.path.getsize(f"{room}/stopped"), SECONDS),
+             "no job starts")
         time.sleep(0.2)
         ran.send_signal(signal.SIGINT)
         ran.wait(SECONDS)
     words = [line.split(",")[0] for line in open(f"{room}/stopped", encoding="utf-8")]
     rows_of_jobs = read(f"{room}/out").count("\n") - 1
-    must(rows_of_jobs == words.count("end") == words.count("start"), f"{rows_of_jobs} rows, {words.count('start')} starts")
+    must(rows_of_jobs == words.count("end") == words.count("start"),
+         f"{rows_of_jobs} rows, {words.count('start')} starts")
     must(0 < rows_of_jobs < JOBS * AGAIN, f"{rows_of_jobs} jobs ran")
     return f"{rows_of_jobs} of {JOBS * AGAIN} jobs"
 

@@ -129,7 +129,8 @@ def installs_from_a_tarball(clone, work):
         it.extractall(room, **({"filter": "data"} if hasattr(tarfile, "data_filter") else {}))
     for top in (clone, os.path.join(room, f"cubejobs-{version.of_sources()}")):
         places.append(os.path.join(work, f"installed{len(places)}"))
-        status, _, said = answer([os.path.join(top, "install"), "--prefix", "/p", "--destdir", places[-1]], "", text=True)
+        status, _, said = answer([os.path.join(top, "install"), "--prefix", "/p", "--destdir", places[-1]], "",
+                                 text=True)
         must(status == 0 and not said, f"install: status {status}, {said!r}")
     must(tree(places[0]) == tree(places[1]), "the tarball installs something else than a clone")
 

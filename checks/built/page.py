@@ -47,7 +47,8 @@ return asked.map(({ text, event, n }) => {
   for (let row = 0; row <= file.rows.length; row++) {
     show(row);
     const text = (id) => by(id).textContent;
-    shown.push(Object.fromEntries(["count", "now", "row", "words", "holders", "end", "warning"].map((id) => [id, text(id)])));
+    const names = ["count", "now", "row", "words", "holders", "end", "warning"];
+    shown.push(Object.fromEntries(names.map((id) => [id, text(id)])));
   }
   return { shown, wrong, drawing: by("scroll").innerHTML, strip: by("share").innerHTML };
 });
@@ -175,7 +176,8 @@ def check_rules(built, schedules):
     for n, stations in ((0, 1), (0, 3), (1, 4), (2, 3), (3, 8), (4, 16), (6, 30), (9, 40), (12, 48)):
         given = random_schedule(chance, n, stations, 3000)
         texts.append(output([built, "replay", "--dim", str(n), "--stations", str(stations)], given))
-    wrongs = in_page("return asked.map((text) => { const found = readFile(text); return [found.rows.length, firstWrong(found)]; });", texts)
+    wrongs = in_page("""return asked.map((text) => {
+        const found = readFile(text); return [found.rows.length, firstWrong(found)]; });""", texts)
     for text, (_, wrong) in zip(texts, wrongs):
         expect(wrong is None, f"the rules refuse a right row of {text[:60]!r}: {wrong}")
     forged = [pair for one in schedules for pair in altered(one.rows, notes, chance)]
@@ -191,7 +193,8 @@ def check_rules(built, schedules):
         reds = re.findall(r'data-overlap="(\d+)"', one["drawing"])
         expect(reds == ([] if red is None else [str(red)]), f"{text!r}: in red are {reds}")
     [cut] = in_page(SHOWN, [{"text": "station,event,node,word,note\n0,look,1,-,free\n"}])
-    expect({it["warning"] for it in cut["shown"]} == {"The file has no end rows: it may have been cut."}, "a file that was cut")
+    expect({it["warning"] for it in cut["shown"]} == {"The file has no end rows: it may have been cut."},
+           "a file that was cut")
     return sum(length for length, _ in wrongs), len(forged)
 
 
@@ -223,16 +226,21 @@ def check_contrast():
         pairs += [("ring", "paper", 4.5), ("ring", "box", 3)]
         pairs += [(line, on, 3) for line in ("line", "thin") for on in ("paper", "box")]
         for ink, on, least in pairs:
-            expect(contrast(theme[ink], theme[on]) >= least, f"{name}: {ink} on {on} has {contrast(theme[ink], theme[on]):.2f}")
+            expect(contrast(theme[ink], theme[on]) >= least,
+                   f"{name}: {ink} on {on} has {contrast(theme[ink], theme[on]):.2f}")
         for number, it in enumerate(one["stations"]):
             expect(contrast(it["ink"], it["fill"]) >= 4.5, f"{name}: the ink of {number}")
             faded = mixed(it["fill"], theme["box"], 0.35)
-            expect(contrast(theme["ink"], faded) >= 4.5, f"{name}: the ink of {number} where it is past has {contrast(theme['ink'], faded):.2f}")
+            expect(contrast(theme["ink"], faded) >= 4.5,
+                   f"{name}: the ink of {number} where it is past has {contrast(theme['ink'], faded):.2f}")
             least = min(contrast(it["line"], theme[on]) for on in ("paper", "box"))
             expect(least >= 3, f"{name}: the line of {number} has {least:.2f}")
-    styles = re.findall(r"--paper: (#\w+); --ink: (#\w+); --faint: (#\w+); --line: (#\w+); --soft: (#\w+); --ring: (#\w+);", read(PAGE))
+    names = ("paper", "ink", "faint", "line", "soft", "ring")
+    styles = re.findall(" ".join(rf"--{it}: (#\w+);" for it in names), read(PAGE))
     expect(len(styles) == 4, f"{len(styles)} sets of colours in the style")
-    for paper, ink, faint, line, soft, ring in ([it if len(it) > 4 else "#" + "".join(2 * x for x in it[1:]) for it in one] for one in styles):
+    for style in styles:
+        paper, ink, faint, line, soft, ring = (
+            it if len(it) > 4 else "#" + "".join(2 * x for x in it[1:]) for it in style)
         least = min(contrast(text, on) for text in (ink, faint, ring) for on in (paper, soft))
         expect(least >= 4.5, f"the style's texts on {paper} have {least:.2f}")
         expect(contrast(line, paper) >= 3, f"the style's lines on {paper} have {contrast(line, paper):.2f}")
@@ -247,7 +255,8 @@ def check_paths(built):
     for width, drawing in zip((1240, 328), in_page(body, text)):
         nodes = {int(it) for it in re.findall(r'data-node="(\d+)"', drawing)}
         expect(nodes == used, f"at {width} px the paths in use have {len(nodes)} nodes and not {len(used)}")
-        boxes = re.findall(r'data-node="\d+"><title>[^<]*</title><rect x="[\d.-]+" y="[\d.]+" width="([\d.]+)"', drawing)
+        boxes = re.findall(r'data-node="\d+"><title>[^<]*</title><rect x="[\d.-]+" y="[\d.]+" width="([\d.]+)"',
+                           drawing)
         expect(len(boxes) == len(used) and min(map(float, boxes)) >= 22, f"at {width} px a box is too narrow")
         wide = int(re.search(r'<svg [^>]*width="(\d+)"', drawing)[1])
         expect(wide <= 1300, f"at {width} px the drawing is {wide} px wide")
@@ -259,25 +268,30 @@ def check_library(built, writes):
     chance, commands = random.Random(2), []
     for _ in range(10000):
         name = f"n{chance.randrange(70)}"
-        commands.append(["take", name, chance.choice((0, 0, 0, 1, 1, 2, 3, 4, 7))] if chance.random() < 0.55 else ["free", name, "-"])
+        is_take = chance.random() < 0.55
+        commands.append(["take", name, chance.choice((0, 0, 0, 1, 1, 2, 3, 4, 7))] if is_take else ["free", name, "-"])
     if shutil.which("rt"):
         module = wasm_module("cubejobs_fit")
         if writes:
             lines = re.findall(".{1,100}", base64.b64encode(module).decode())
             set_block("library", "\n" + "\n".join(lines) + "\n")
-        expect(base64.b64decode(block("library")) == module, f"the library in {PAGE} is the one that rattle builds: --draw --module writes it")
+        expect(base64.b64decode(block("library")) == module,
+               f"the library in {PAGE} is the one that rattle builds: --draw --module writes it")
     else:
         print("page: a build of its library is skipped: there is no rt")
-    wanted = output([built, "place", "--dim", "9"], "\n".join(["command,name,dim", *(",".join(map(str, it)) for it in commands), ""]))
+    wanted = output([built, "place", "--dim", "9"],
+                    "\n".join(["command,name,dim", *(",".join(map(str, it)) for it in commands), ""]))
     body = """const machine = openExact(await loadLibrary(by("library").textContent), 9);
         return asked.map(([command, name, k]) => (command === "take" ? machine.take(name, k) : machine.free(name)));"""
     got = in_page(body, commands, ["--experimental-wasm-memory64"])
     for number, (one, other) in enumerate(zip(got, wanted.splitlines()[1:]), 1):
         expect(one == other, f"call {number} of the library in the page: {one} and not {other}")
-    expect({row.rpartition(",")[2] for row in got} == {"given", "freed", "nosubcube", "held", "nostation", "nothingheld"}, "each outcome")
+    outcomes = {"given", "freed", "nosubcube", "held", "nostation", "nothingheld"}
+    expect({row.rpartition(",")[2] for row in got} == outcomes, "each outcome")
     expect(len(got) == 10000, f"{len(got)} calls")
     policy = re.search(r'Content-Security-Policy" content="([^"]*)"', read(PAGE))[1]
-    wanted = "default-src 'none'; style-src 'unsafe-inline'; script-src 'unsafe-inline' 'wasm-unsafe-eval'; img-src data: blob:"
+    wanted = ("default-src 'none'; style-src 'unsafe-inline'; script-src 'unsafe-inline' 'wasm-unsafe-eval'; "
+              "img-src data: blob:")
     expect(policy == wanted, f"the page's policy: {policy}")
 
 
@@ -292,7 +306,8 @@ def check_cards(files, writes):
     expect(told.count("<button") == told.count("<svg") == len(CARDS), "a card with a picture for each example")
 
 
-WAY = "Jobs wait in a queue. A worker takes a job, and a block of processors for it. It runs the job and releases the block."
+WAY = ("Jobs wait in a queue. A worker takes a job, and a block of processors for it. It runs the job and releases the "
+       "block.")
 HELD = "station,call,arg\n1,take,4\n1,run,-\n2,take,3\n2,run,-\n"
 
 
@@ -304,7 +319,8 @@ def pictures(built, schedules):
         return way ? drawWay(colours, 720, { n, world, row: null, said: way }) : draw(colours, 1000); }));"""
     held = output([built, "replay", "--dim", "2", "--stations", "3"], HELD)
     asked = [{"text": one.text, "event": one.event, "n": one.n} for one in schedules]
-    asked += [{"text": read("examples", "events.csv"), "event": 30, "n": 4}, {"text": held, "event": len(parts(held)[0]), "n": 2, "way": WAY}]
+    asked += [{"text": read("examples", "events.csv"), "event": 30, "n": 4},
+              {"text": held, "event": len(parts(held)[0]), "n": 2, "way": WAY}]
     names = [(os.path.basename(one.name), "docs/TREE.md", "pictures") for one in schedules]
     names += [("events", "docs/GUIDE.md", "pictures"), ("way", "README.md", "docs/pictures")]
     for (name, document, folder), drawn in zip(names, in_page(body, asked)):
@@ -335,7 +351,8 @@ def main(words):
     needs("node")
     built, draws = program(words), "--draw" in words
     schedules = [Schedule(built, name) for name in SCHEDULES]
-    place, events = output([built, "place", "--dim", "3"], read("examples", "place.csv")), read("examples", "events.csv")
+    place = output([built, "place", "--dim", "3"], read("examples", "place.csv"))
+    events = read("examples", "events.csv")
     told = in_page(SHOWN, [*({"text": one.text} for one in schedules), {"text": place}, {"text": events}])
     for one, seen in zip(schedules, told):
         one.compare(seen["shown"])

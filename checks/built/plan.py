@@ -43,7 +43,8 @@ class Player:
     def some_job(self, runs):
         """Returns the number of a job, most often of one that runs or that waits."""
         numbers = [it.arrival for it in self.model.jobs.values() if (it.base is not None) == runs]
-        return self.random.choice(numbers) if numbers and self.random.random() < 0.95 else self.random.randrange(self.model.arrivals)
+        is_one = numbers and self.random.random() < 0.95
+        return self.random.choice(numbers) if is_one else self.random.randrange(self.model.arrivals)
 
     def submit(self):
         one, size = self.random, 2**self.model.dim

@@ -60,7 +60,8 @@ def drawn(theme):
     ink, (found, kept) = INK[theme], plan()
     bottom = TOP + ROW * 2**DIM
     out = [f'<svg xmlns="http://www.w3.org/2000/svg" width="{WIDTH}" height="{HEIGHT}" viewBox="0 0 {WIDTH} {HEIGHT}" '
-           f'font-family="system-ui, \'DejaVu Sans\', sans-serif"><rect width="{WIDTH}" height="{HEIGHT}" fill="{ink["back"]}"/>']
+           f'font-family="system-ui, \'DejaVu Sans\', sans-serif">'
+           f'<rect width="{WIDTH}" height="{HEIGHT}" fill="{ink["back"]}"/>']
     out += [f'<line x1="{LEFT}" y1="{y}" x2="{WIDTH - 16}" y2="{y}" stroke="{ink["line"]}"/>' for y in (TOP, bottom)]
     for name, word, base, processors, start, end in found:
         if name:
@@ -94,7 +95,8 @@ def shows_each_case():
     found, kept = plan()
     where = {it[0]: it[2:] for it in found}
     must(where["W"] == (0, 8, 6, 11) and kept == (0, 8, 1, 6), f"W is planned as {where['W']}, reserved as {kept}")
-    must(where["C"][0] >= 8 and where["D"][0] < 8 and where["D"][3] <= kept[3], f"C and D are at {where['C']}, {where['D']}")
+    must(where["C"][0] >= 8 and where["D"][0] < 8 and where["D"][3] <= kept[3],
+         f"C and D are at {where['C']}, {where['D']}")
 
 
 def main(words):

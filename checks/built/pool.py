@@ -1,9 +1,9 @@
 """Tests the Rust package `cubejobs-pool`: its tests, documents and examples, without a warning.
 
     checks/run pool                 one run of all, and a look for mutants that no longer fit
-    checks/run pool --long          2,000 random programs; 25 runs of the tests, every other one on two processors; a run
-                                    under AddressSanitizer, which sees leaks too; and each mutant: a test sees it within
-                                    a limit of time, and passes without it
+    checks/run pool --long          2,000 random programs; 25 runs of the tests, every other one on two processors; a
+                                    run under AddressSanitizer, which sees leaks too; and each mutant: a test sees it
+                                    within a limit of time, and passes without it
     checks/run pool --mutants NAME..  these mutants alone
 
 A mutant is a file of rust/pool/mutants: the file that it changes, the tests that see it, the old text and the new one.

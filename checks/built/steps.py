@@ -22,7 +22,8 @@ from tests.faults.slips import OF_STEPS
 
 CALLS, MANY, SECONDS = 40_000, 1_000_000, 1800
 PROGRAM = "tests/rust/steps.rs"
-WORDS = ["--edition", "2021", "-Coverflow-checks=on", "-O", *(f'--cfg=feature="{it}"' for it in ("lanes", "regions", "std"))]
+WORDS = ["--edition", "2021", "-Coverflow-checks=on", "-O",
+         *(f'--cfg=feature="{it}"' for it in ("lanes", "regions", "std"))]
 # The import of the words in the shim, and what stands there instead: each file of the source form that has one.
 IMPORT = "use core::sync::atomic::{AtomicU64, Ordering::SeqCst};"
 COUNTED = "use crate::counting::AtomicU64;\nuse core::sync::atomic::Ordering::SeqCst;"

@@ -58,7 +58,8 @@ def main(words):
     listed = lines()
     names = sorted(it for it in os.listdir(path(FOLDER)) if os.path.isdir(path(FOLDER, it, "src")))
     with concurrent.futures.ThreadPoolExecutor(2) as pool:
-        begun = {it: pool.submit(run_tests, it, listed[it]) for it in names if it in listed and (not words or it in words)}
+        wanted = [it for it in names if it in listed and (not words or it in words)]
+        begun = {it: pool.submit(run_tests, it, listed[it]) for it in wanted}
         rows = [Row(f"{it} is listed", is_listed, (it, listed)) for it in names]
         rows += [Row(f"tests of {it}", ran.result) for it, ran in begun.items()]
         return run_rows("tests", rows, says_ok=True)

@@ -35,8 +35,10 @@ CRATES = (
 # the pure machine, the text and the flags of a word.
 TREE = ("status_word", "cube_core", "tree_steps", "cube_tree", "collectives")
 LEFT_OUT = (
-    (r"    /// Returns the word as text.*?\n}\n(?=\n/// Proves)", "}\n"), (r"    /// Returns the bits of use\..*?\n    }\n\n", ""),
-    (r"use crate::use_bits::UseBits;\nuse bitflags::Flags;\n|use std::(?:alloc::{AllocError, Global}|fmt::Write);\n(?=.*push_mark)", ""),
+    (r"    /// Returns the word as text.*?\n}\n(?=\n/// Proves)", "}\n"),
+    (r"    /// Returns the bits of use\..*?\n    }\n\n", ""),
+    (r"use crate::use_bits::UseBits;\nuse bitflags::Flags;\n"
+     r"|use std::(?:alloc::{AllocError, Global}|fmt::Write);\n(?=.*push_mark)", ""),
     (r"(?<=\n)(?:mod (?:use_bits|act|effect|world|padding)|pub use (?:use_bits|act|world|padding)::[^;]*);\n", ""),
 )
 NO_TREE = ("status_word/use_bits", "cube_core/act", "cube_core/effect", "cube_core/world", "collectives/padding")

@@ -119,7 +119,8 @@ def faults_in(page, text, listed):
 
 SAMPLE = "It never waits. Nothing here. A `never` is code.\n\n- Each call\n  is proved.\n"
 LISTED = {"Each call": ["cube_shape: regions_apart exact_no", "tested by nobody_at_all"], "Some": [], "It": ["a duty"]}
-WANTED = ("regions_apart has no clause exact_no", "'tested by nobody_at_all': there is none", "begins 'Some'", "carries 'Some'")
+WANTED = ("regions_apart has no clause exact_no", "'tested by nobody_at_all': there is none", "begins 'Some'",
+          "carries 'Some'")
 
 
 def main(words):
@@ -130,5 +131,6 @@ def main(words):
     if "--list" in words:
         faults = [it for it in faults if it.partition(": ")[2].startswith("no entry")]
     sample = [*faults_in("README.md", SAMPLE, LISTED)]
-    faults += blind("claims", [(sample, WANTED), ([*faults_in("README.md", SAMPLE, {})], ("It never waits", "Each call is"))])
+    faults += blind("claims",
+                    [(sample, WANTED), ([*faults_in("README.md", SAMPLE, {})], ("It never waits", "Each call is"))])
     return print_faults(faults)

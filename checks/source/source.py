@@ -112,7 +112,8 @@ def left_out(words, at):
         return past_ghost(words, at + 1)
     if word == "#":
         inside = at + 1 + (words[at + 1] == "!")
-        if words[inside + 1] in ("error", "tactic", "unsafe") or words[inside + 1 : inside + 5] == ["derive", "(", "Drop", ")"]:
+        is_drop = words[inside + 1 : inside + 5] == ["derive", "(", "Drop", ")"]
+        if words[inside + 1] in ("error", "tactic", "unsafe") or is_drop:
             return past(words, inside)
         if words[inside + 1 : inside + 4] == ["cfg", "(", "test"]:
             return words.index(";", inside) + 1
