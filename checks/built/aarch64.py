@@ -17,10 +17,9 @@ import tempfile
 
 from checks.built import archive, beside, release
 from checks.lib.c_programs import CALLS, FIT, LANES, PLAN, REGIONS, ROUNDS, SCHED, SECONDS, Program, must_run
-from checks.lib.repository import path, read_bytes
+from checks.lib.repository import path, read_bytes, version_of_sources
 from checks.lib.rows import Row, Skipped, answer, must, needs, output, put, run_rows
 from checks.lib.toolchain import build_below, crates, kit, sum_of_sources
-from checks.source import version
 from tests.install.tables import IN_RUST
 
 RELEASE, TRIPLE, PROGRAM = release.AARCH64, "aarch64-unknown-linux-gnu", "jobs_cli"
@@ -174,7 +173,7 @@ def renew(folder):
     for name in release.COPIES:
         put(os.path.join(release.RUST, "aarch64", name), read_bytes(RELEASE, name))
     held = release.Release(RELEASE)
-    held.write_sums(version.of_sources(), release.build_here(), f"# linked with {packages()}")
+    held.write_sums(version_of_sources(), release.build_here(), f"# linked with {packages()}")
 
 
 def main(words):

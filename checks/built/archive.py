@@ -16,10 +16,9 @@ import tempfile
 from typing import NamedTuple
 
 from checks.lib.c_programs import LIBRARIES
-from checks.lib.repository import path, read_bytes
+from checks.lib.repository import path, read_bytes, version_of_sources
 from checks.lib.rows import Wrong, must, put
 from checks.lib.toolchain import kit
-from checks.source import version
 
 # What the names of the headers' functions begin with.
 OWN = b"cubejobs_"
@@ -113,7 +112,7 @@ def make(system, name, out, room):
 def share(system, name, folder, room):
     """Makes the shared object of a library of a folder."""
     tools = f"{kit().KIT}/toolchain/bin"
-    interface, names = ".".join(version.of_sources().split(".")[:2]), f"{room}/{name}.map"
+    interface, names = ".".join(version_of_sources().split(".")[:2]), f"{room}/{name}.map"
     put(names, f"CUBEJOBS_{interface} {{ global: cubejobs_*; local: *; }};\n".encode())
     flags = ["-z", "defs", "-z", "now", "--hash-style=gnu", "--build-id=none", "--as-needed", "--version-script", names]
     whole = ["--whole-archive", f"{folder}/lib{name}.a", "--no-whole-archive", system.libc]

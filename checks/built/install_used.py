@@ -6,9 +6,8 @@ import subprocess
 
 from checks.built import pool
 from checks.lib.clones import clone_with, tree
-from checks.lib.repository import read, write
+from checks.lib.repository import read, version_of_sources, write
 from checks.lib.rows import answer, must, needs, output
-from checks.source import version
 from tests.install.tables import IN_RUST
 
 CMAKE, GANG = "tests/install/CMakeLists.txt", "tests/install/gang.rs"
@@ -122,7 +121,7 @@ class Used:
         """Installs a release of a version, and sees how packages compare it."""
         sums, room = os.path.join(self.clone, "release", "linux-x86_64", "SHA256SUMS"), os.path.join(self.work, of)
         before = read(sums)
-        write(sums, before.replace(f"# version {version.of_sources()}\n", f"# version {of}\n"))
+        write(sums, before.replace(f"# version {version_of_sources()}\n", f"# version {of}\n"))
         try:
             self.must_install("--prefix", "/p", "--destdir", room)
         finally:

@@ -7,9 +7,8 @@ import re
 import shutil
 import textwrap
 
-from checks.lib.repository import path, read, write
+from checks.lib.repository import path, read, version_of_sources, write
 from checks.lib.rows import answer, must, print_faults
-from checks.source import version
 
 # Each library: its header, and the other headers that belong to its page.
 LIBRARIES = {
@@ -86,7 +85,7 @@ def page(library):
                           for names, code, says in found)
     others = ", ".join(f".BR {it} (3)" for it in LIBRARIES if it != library).replace(", .BR", " ,\n.BR")
     return "\n".join([
-        f'.TH {library.upper()} 3 "" "cubejobs {version.of_sources()}"',
+        f'.TH {library.upper()} 3 "" "cubejobs {version_of_sources()}"',
         f".\\\" Made of include/{header} by checks/run manual.",
         ".nh",
         f".SH NAME\n{library} \\- {escaped(about)}",

@@ -14,9 +14,8 @@ import tarfile
 import zipfile
 
 from checks.lib.clones import clone_with, tree
-from checks.lib.repository import path, read
+from checks.lib.repository import path, read, version_of_sources
 from checks.lib.rows import Row, Skipped, answer, must, output, put
-from checks.source import version
 
 SECONDS = 300
 # What a user sees of the installed module: where it is, what it has loaded, and that it works.
@@ -41,7 +40,7 @@ class Wheel:
     def __init__(self, work, built):
         self.work, self.clone = work, clone_with(work, built)
         self.python = os.path.join(work, "venv", "bin", "python")
-        self.version = version.of_sources().replace("-dev", ".dev0")
+        self.version = version_of_sources().replace("-dev", ".dev0")
         hidden = ("PYTHONPATH", "CUBEJOBS_LIB", "LD_LIBRARY_PATH")
         self.env = {name: it for name, it in os.environ.items() if name not in hidden and not name.startswith("PIP_")}
         self.env.update(PIP_NO_INDEX="1", PIP_NO_CACHE_DIR="1", PIP_DISABLE_PIP_VERSION_CHECK="1")
@@ -78,7 +77,7 @@ class Wheel:
         must(loaded == wanted, f"the module has loaded {loaded}")
         must(f"Version: {self.version}\n" in self.must_pip("show", "cubejobs"), "pip shows another version")
         used = output([self.python, "-c", USE], env=self.env, cwd="/").splitlines()[1]
-        must(used == f"{version.of_sources()} Block(base=0, dim=2) Block(base=0, dim=2) 1", used)
+        must(used == f"{version_of_sources()} Block(base=0, dim=2) Block(base=0, dim=2) 1", used)
         self.has_types()
         self.must_pip("uninstall", "--yes", "cubejobs")
         must(tree(self.venv()) == before, f"these are left: {sorted({*tree(self.venv())} ^ {*before})[:5]}")
@@ -168,7 +167,7 @@ class Wheel:
         for it in ("python", "release"):
             shutil.copytree(f"{self.clone}/{it}", f"{room}/{it}")
         sums = f"{room}/release/{sysconfig.get_platform()}/SHA256SUMS"
-        put(sums, read(sums).replace(f"# version {version.of_sources()}\n", "# version 0.0.9\n"))
+        put(sums, read(sums).replace(f"# version {version_of_sources()}\n", "# version 0.0.9\n"))
         self.refusal(f"{room}/python", "has no shared objects of the version")
 
 

@@ -3,9 +3,8 @@ import hashlib
 import os
 import shutil
 
-from checks.lib.repository import ROOT, read, read_bytes, write
+from checks.lib.repository import ROOT, read, read_bytes, version_of_sources, write
 from checks.lib.toolchain import sum_of_sources
-from checks.source import version
 
 
 def copy_to(folder, built):
@@ -26,7 +25,7 @@ def clone_with(work, built):
     clone = os.path.join(work, "clone")
     copy_to(clone, built)
     sums = os.path.join(clone, "release", "linux-x86_64", "SHA256SUMS")
-    write(sums, f"# version {version.of_sources()}\n{read(sums)}")
+    write(sums, f"# version {version_of_sources()}\n{read(sums)}")
     return clone
 
 

@@ -1,5 +1,5 @@
 """What an installation has, how its packages compare versions, and what its examples show."""
-from checks.source import version
+from checks.lib.repository import version_of_sources
 
 # The examples in C and C++ that end by themselves, with the words that they need. Their output is beside them.
 EXAMPLES = ("arena.c", "blocks.cpp", "fit.c", "lanes.c", "lanes.cpp", "plan.c", "regions.c", "rounds.c", "sched.c", "tasks.cpp",
@@ -13,7 +13,7 @@ IN_RUST = {
     "park": "55\n", "tasks": "8 tasks ran jobs with a sum of 499500\n", "batch": "40 jobs have ended, and 0 are left\n",
     "global_alloc": "59452000 bytes in vectors, and each had one owner\n"}
 # Words of find_package, and what CMake says where it finds nothing. Before a release, its version is not there yet.
-NUMBER, _, DEV = version.of_sources().partition("-")
+NUMBER, _, DEV = version_of_sources().partition("-")
 OTHER = "compatible with requested version"
 PACKAGES = (
     ("cubejobs", ""), (f"cubejobs {NUMBER} REQUIRED", DEV and OTHER), ("cubejobs 0.1 REQUIRED", OTHER),

@@ -1,8 +1,8 @@
 """What the rows of all commands share: headers, files of one job, and rows of tables."""
+from checks.lib.repository import version_of_sources
 from checks.lib.rows import Row, must_answer
-from checks.source import version
 
-VERSION = f"cubejobs {version.of_sources()}\n"
+VERSION = f"cubejobs {version_of_sources()}\n"
 JOBS, REPLIES = "lane,kind,op,root,items", "lane,seq,kind,dim,result,rounds,messages"
 VALUES = "lane,seq,place,value"
 TOTALS = "group,key,count,processors,idle"
