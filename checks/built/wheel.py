@@ -154,19 +154,21 @@ class Wheel:
         shutil.copytree(f"{self.clone}/python", f"{self.work}/alone/python")
         self.refusal(f"{self.work}/alone/python", "there are no shared objects here")
 
-    def damaged(self):
-        room = f"{self.work}/damaged"
+    def copied(self, name):
+        """Copies module and release into a room of this name. Returns the room, and the folder of its shared objects."""
+        room = f"{self.work}/{name}"
         for it in ("python", "release"):
             shutil.copytree(f"{self.clone}/{it}", f"{room}/{it}")
-        folder = f"{room}/release/{sysconfig.get_platform()}"
+        return room, f"{room}/release/{sysconfig.get_platform()}"
+
+    def damaged(self):
+        room, folder = self.copied("damaged")
         put(f"{folder}/libcubejobs_fit.so", self.bytes_of(f"{folder}/libcubejobs_fit.so") + b"?")
         self.refusal(f"{room}/python", "is damaged")
 
     def of_another_version(self):
-        room = f"{self.work}/other"
-        for it in ("python", "release"):
-            shutil.copytree(f"{self.clone}/{it}", f"{room}/{it}")
-        sums = f"{room}/release/{sysconfig.get_platform()}/SHA256SUMS"
+        room, folder = self.copied("other")
+        sums = f"{folder}/SHA256SUMS"
         put(sums, read(sums).replace(f"# version {version_of_sources()}\n", "# version 0.0.9\n"))
         self.refusal(f"{room}/python", "has no shared objects of the version")
 
