@@ -155,7 +155,7 @@ class Wheel:
         self.refusal(f"{self.work}/alone/python", "there are no shared objects here")
 
     def copied(self, name):
-        """Copies module and release into a room of this name. Returns the room, and the folder of its shared objects."""
+        """Copies module and release into a room of this name. Returns it, and the folder of its shared objects."""
         room = f"{self.work}/{name}"
         for it in ("python", "release"):
             shutil.copytree(f"{self.clone}/{it}", f"{room}/{it}")

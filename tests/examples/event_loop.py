@@ -37,20 +37,23 @@ class Loop:
 
     def shows(self, *lines):
         """Waits until it has written these lines, and no others."""
-        must(comes(lambda: len(self.said(self.out)) >= len(lines), SECONDS), f"it says {self.said(self.out)}, not {lines}")
+        must(comes(lambda: len(self.said(self.out)) >= len(lines), SECONDS),
+             f"it says {self.said(self.out)}, not {lines}")
         must(self.said(self.out) == [*lines], f"it says {self.said(self.out)}, not {lines}")
 
     def ends(self, status, *errors):
         if not self.ran.stdin.closed:
             self.ran.stdin.close()
         must(comes(lambda: self.ran.poll() is not None, SECONDS), "it does not end")
-        must(self.ran.returncode == status and self.said(self.err) == [*errors], f"{self.ran.returncode}, {self.said(self.err)}")
+        must(self.ran.returncode == status and self.said(self.err) == [*errors],
+             f"{self.ran.returncode}, {self.said(self.err)}")
 
 
 def must_plan(words, room):
     """Sees that a brief job passes one that waits for all processors, and that a long one does not."""
     with Loop(words, room) as loop:
-        loop.write(f"2 9 {HOLDS.format(f'{room}/go')}", "4 9 exit 7", "1 600 true", f"1 1 echo $CUBEJOBS_PROCESSORS > {room}/where",
+        loop.write(f"2 9 {HOLDS.format(f'{room}/go')}", "4 9 exit 7", "1 600 true",
+                   f"1 1 echo $CUBEJOBS_PROCESSORS > {room}/where",
                    "x 1 true", "5 1 true", "1 true", "1 1 ", "1 99999999999 true")
         before = ["1 starts on 0-1", "4 starts on 2-2", "4 ends with 0"]
         loop.shows(*before)
@@ -95,7 +98,8 @@ def must_end(words, room):
 WRONG_PROGRAMS = (
     ("estimates are not passed on", "request.estimate *= 1000;", "request.estimate = 0;"),
     ("a job does not know its processors", "!setenv(\"CUBEJOBS_PROCESSORS\", processors, 1)", "!(processors == NULL)"),
-    ("Ctrl-C cancels nothing", "if (reap(), signal.ssi_signo == SIGINT) stop()", "if (reap(), signal.ssi_signo == SIGINT) stops++"),
+    ("Ctrl-C cancels nothing", "if (reap(), signal.ssi_signo == SIGINT) stop()",
+     "if (reap(), signal.ssi_signo == SIGINT) stops++"),
     ("a second Ctrl-C ends nothing", "WRONG_STATE && stops", "WRONG_STATE && 0"),
     ("an end is not noted", "reap(), signal", "signal"),
 )

@@ -14,7 +14,8 @@ JITTER = 10**9
 # What a command writes of itself: its line, OMP_NUM_THREADS, its CPUs, and when it began and ended.
 COMMAND = "b=$(date +%s%N); sleep 0.0{}; grep Cpus_allowed_list /proc/self/status | " \
     "sed \"s/.*:/{} $OMP_NUM_THREADS $b $(date +%s%N)/\" >> {}"
-WRONG = ("true", "0 1 true", "-1 1 true", "1", "1 ", "1 1", "1 1 ", "1 true", "1true", "1 1true", "x 1 true", "", "4096 1 true",
+WRONG = ("true", "0 1 true", "-1 1 true", "1", "1 ", "1 1", "1 1 ", "1 true", "1true", "1 1true", "x 1 true", "",
+         "4096 1 true",
          "99999999999999999999 1 true", "1 -1 true", "1 1000000001 true", "1 1 a\0b")
 
 
@@ -94,7 +95,8 @@ def must_refuse(words, room):
 def must_log(words, room):
     """Sees exit codes, signals, an empty file, a last line without an end, and a full disk."""
     log = f"{room}/codes"
-    put(f"{room}/jobs", "1 0 exit 7\n1 0 kill -9 $$\n1\t0\tno_such_command_at_all 2> /dev/null\n1 0 read x; test -z \"$x\"")
+    put(f"{room}/jobs",
+        "1 0 exit 7\n1 0 kill -9 $$\n1\t0\tno_such_command_at_all 2> /dev/null\n1 0 read x; test -z \"$x\"")
     put(log, "")
     must_be_answer(answer([*words, f"{room}/jobs", log]), 1, "", "")
     codes = sorted(line.split("\t")[:2] for line in open(log, encoding="utf-8"))

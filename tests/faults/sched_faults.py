@@ -19,16 +19,19 @@ OF_OWNERS = (
     ("a worker stays after its last job", "is_left ? cubejobs_sched_leave(&at) : ", ""),
     ("no worker is lost", "return all->losses[at.number] != losses;", "return false;"),
     ("the end of an owner does not close", "~scheduler() { close(waiting::runs); }", "~scheduler() = default;"),
-    ("a job does not end with its allocation", "~allocation() { done(); }", "~allocation() = default;", b"cubejobs::error", *SEEN),
+    ("a job does not end with its allocation", "~allocation() { done(); }", "~allocation() = default;",
+     b"cubejobs::error", *SEEN),
     ("a time that has passed is no deadline", "return all ? all : 1;", "return all;"),
 )
 # The same of what only a sanitizer sees.
-LEAKS = ("jobs that wait at the end are kept", "        while (cubejobs_sched_rest(&at).code == CUBEJOBS_SCHED_DONE) {}\n", "",
+LEAKS = ("jobs that wait at the end are kept",
+         "        while (cubejobs_sched_rest(&at).code == CUBEJOBS_SCHED_DONE) {}\n", "",
          b"LeakSanitizer")
 OF_RACES = (
     ("two threads end a job", f"{END}{LOCK}", END, RACE),
     ("a worker leaves beside the end of its job", f"{LEAVE}{LOCK}", LEAVE, RACE),
-    ("a worker goes on beside the end of its job", f"    {LOCK}            running = 0;\n", "            running = 0;\n", RACE),
+    ("a worker goes on beside the end of its job", f"    {LOCK}            running = 0;\n",
+     "            running = 0;\n", RACE),
 )
 # The same of the header.
 OF_NAPS = (

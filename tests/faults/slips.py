@@ -26,17 +26,21 @@ OF_ANSWERS = (
          "(64 - (1u32 << k))) << offset >> (k / 5)"),
     Slip("a search forgets where it begins", "bitmap_tree/marks.rs", "words & (u64::MAX << (from % 64))", "words"),
     Slip("a descent goes right too soon", "fit_tree/walks.rs", "if rooms[node] < least {", "if rooms[node] <= least {"),
-    Slip("a full block is released", "fit_tree/image.rs", "let held = rooms[node] == 0;", "let held = rooms[node] <= 1;"),
+    Slip("a full block is released", "fit_tree/image.rs", "let held = rooms[node] == 0;",
+         "let held = rooms[node] <= 1;"),
     Slip("a lane takes a job more", "job_lanes/submits.rs", "count - taken < self.plan", "count - taken <= self.plan"),
     Slip("a worker that sleeps is not noticed", "wake_calls/steps.rs", "SEARCH {\n        return Noticed",
          "1 {\n        return Noticed"),
-    Slip("an end that is late is not known", "sched_core/small.rs", "now.saturating_add(estimate)", "now.wrapping_add(estimate)"),
-    Slip("a closed scheduler takes jobs", "sched_board/board.rs", "            return Err(BoardRefusal::Closed);\n", ""),
+    Slip("an end that is late is not known", "sched_core/small.rs", "now.saturating_add(estimate)",
+         "now.wrapping_add(estimate)"),
+    Slip("a closed scheduler takes jobs", "sched_board/board.rs", "            return Err(BoardRefusal::Closed);\n",
+         ""),
     Slip("the whole machine is refused", "cubejobs_fit/faults.rs", "fault == DONE && k > n", "fault == DONE && k >= n"),
 )
 # Those that the driver must see. It does not call what the others are in, or has one thread, which does not meet them.
 SEEN_BY_THE_DRIVER = [it for it in OF_ANSWERS if it.name not in (
-    "the swap returns the new word", "a slot stays taken", "an end that is late is not known", "a closed scheduler takes jobs")]
+    "the swap returns the new word", "a slot stays taken", "an end that is late is not known",
+    "a closed scheduler takes jobs")]
 
 # Those of `checks/run steps`: a call must make too many accesses. The gate tries each second one: one of each
 # structure, and the last.
@@ -47,7 +51,8 @@ OF_STEPS = (
          "        for _ in 0..1_000_000 { self.peek(0); }\n        if !self.shut_spares(seat, k / 6) {\n"),
     Slip("a submit loads its word once more", "job_lanes/submits.rs", "        let cell = self.cell(count);\n",
          "        let cell = self.cell(count);\n        self.table.shared.peek(0);\n        self.table.shared.peek(0);\n"),
-    Slip("a wake looks twice", "wake_calls/steps.rs", "    let found = shared.load::<Notices<K, R>>(seat, word as usize);\n",
+    Slip("a wake looks twice", "wake_calls/steps.rs",
+         "    let found = shared.load::<Notices<K, R>>(seat, word as usize);\n",
          "    shared.peek(0);\n    let found = shared.load::<Notices<K, R>>(seat, word as usize);\n"),
     Slip("a scan makes its rounds twice", "collectives/collective.rs", "    for round in 0..k {\n        scan_round(",
          "    for round in (0..k).chain(0..k) {\n        scan_round("),
@@ -55,13 +60,15 @@ OF_STEPS = (
          "        self.table.shared.peek(0);\n        self.zero_held(seat, node);\n"),
     Slip("a worker that has lost a job says that it took it", "job_lanes/searching.rs",
          "compare_exchange::<Take>(&mut sleeper.seat, head, job.seq, job.seq + 1);\n        found == job.seq",
-         "compare_exchange::<Take>(&mut sleeper.seat, head, job.seq, job.seq + 1);\n        found >= job.seq", "take_idle"),
+         "compare_exchange::<Take>(&mut sleeper.seat, head, job.seq, job.seq + 1);\n        found >= job.seq",
+         "take_idle"),
 )
 
 # Those of `checks/run plan`: an answer of the scheduler must differ from that of the model.
 OF_THE_PLANNER = (
     Slip("a job without an estimate is brief", "sched_core/small.rs", "return 0;", "return NEVER;"),
-    Slip("the front of a queue stays", "wait_queue/queues.rs", "place_after(nodes, queue.front, queue.root, slot)", "queue.front"),
+    Slip("the front of a queue stays", "wait_queue/queues.rs", "place_after(nodes, queue.front, queue.root, slot)",
+         "queue.front"),
     Slip("each usable half is chosen", "sched_blocks/blocks.rs", "if !self.out.has_fit_in(k, upper) {", "if false {"),
     Slip("a free slot is not linked back", "sched_jobs/line_table.rs", "self.set_rank(next, slot as u64 + 1);", ""),
     Slip("all jobs come before", "sched_core/forecast.rs", "before + 1", "before + 2"),

@@ -43,7 +43,8 @@ OF_THE_HEADER = (
     ("wait_order", "a refused take raises nothing", QUICK + RAISED, f"{QUICK}    if (!answer.code) {RAISED}", LOST),
     ("wait_order", "waiters take at the same time", f"{LOCKED}{EXACT}{UNLOCKED}", EXACT, LOST),
     ("deadline_calls", "a stop of waits raises nothing", NOTED + RAISED, NOTED, LOST),
-    ("deadline_calls", "a stop is not looked for", STOPPED, STOPPED.replace("if (!cubejobs_event_is_stopped(event)) ", ""), LOST),
+    ("deadline_calls", "a stop is not looked for", STOPPED,
+     STOPPED.replace("if (!cubejobs_event_is_stopped(event)) ", ""), LOST),
     ("deadline_calls", "a deadline is not looked at", LATE, LATE.replace("cubejobs_has_passed(deadline)", "0"), NEVER),
     ("deadline_calls", "a wait is late at once", LATE, LATE.replace("cubejobs_has_passed(deadline)", "1"), EARLY),
     ("look_order", "a submit reads its key after its try", KEY + TRY + FULL, f"{TRY}{FULL}{KEY}", LOST),
@@ -80,7 +81,8 @@ OF_OWNERS = (
     ("look_order", "try_next raises no room", OF_TRY_NEXT, "        return answer;\n", LOST),
     ("look_order", "a close raises no room", OF_CLOSE, "", LOST),
     ("room_calls", "next raises no room: random programs", OF_NEXT, "", LOST),
-    ("room_calls", "a deadline is ignored", SLEEPS, f"(void)deadline, {SLEEPS}".replace("deadline);", "nullptr);"), LOST),
+    ("room_calls", "a deadline is ignored", SLEEPS, f"(void)deadline, {SLEEPS}".replace("deadline);", "nullptr);"),
+     LOST),
     ("room_calls", "a submit is late at once", SLEEPS, f"{SLEEPS[:-1]} || deadline;", EARLY),
 )
 # What is wrong with a library (wrong_sleep.c), and what sleep_calls.c says then.

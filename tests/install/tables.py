@@ -2,13 +2,15 @@
 from checks.lib.repository import version_of_sources
 
 # The examples in C and C++ that end by themselves, with the words that they need. Their output is beside them.
-EXAMPLES = ("arena.c", "blocks.cpp", "fit.c", "lanes.c", "lanes.cpp", "plan.c", "regions.c", "rounds.c", "sched.c", "tasks.cpp",
+EXAMPLES = ("arena.c", "blocks.cpp", "fit.c", "lanes.c", "lanes.cpp", "plan.c", "regions.c", "rounds.c", "sched.c",
+            "tasks.cpp",
             "wait.c")
 # The examples in Rust, with what each prints. In `blocks` there are 800 blocks each of 1, 2, 4, 8 and 16 processors,
 # and in `park` the payloads 1 to 10 are added up. In `global_alloc` each of 4 threads makes vectors of 1 + 7t mod 3000
 # bytes for each t below 10,000.
 IN_RUST = {
-    "jobs": "40 jobs ran on 248 processors in all\n", "first_fit": "0..2 4..8, then: a part of each block of this dimension is in use\n",
+    "jobs": "40 jobs ran on 248 processors in all\n",
+    "first_fit": "0..2 4..8, then: a part of each block of this dimension is in use\n",
     "groups": "3000 jobs on groups of 16 workers\n", "blocks": "4000 blocks with 24800 processors in all\n",
     "park": "55\n", "tasks": "8 tasks ran jobs with a sum of 499500\n", "batch": "40 jobs have ended, and 0 are left\n",
     "global_alloc": "59452000 bytes in vectors, and each had one owner\n"}
@@ -18,7 +20,8 @@ OTHER = "compatible with requested version"
 PACKAGES = (
     ("cubejobs", ""), (f"cubejobs {NUMBER} REQUIRED", DEV and OTHER), ("cubejobs 0.1 REQUIRED", OTHER),
     ("cubejobs 99.0 REQUIRED", OTHER), ("cubejobs REQUIRED COMPONENTS fit plan sched regions_static lanes rounds", ""),
-    ("cubejobs REQUIRED COMPONENTS fit nonsense", "cubejobs has no component nonsense, but fit, plan, sched, regions, lanes and rounds"),
+    ("cubejobs REQUIRED COMPONENTS fit nonsense",
+     "cubejobs has no component nonsense, but fit, plan, sched, regions, lanes and rounds"),
     ("cubejobs REQUIRED OPTIONAL_COMPONENTS nonsense", ""))
 # Versions, how pkg-config and CMake must compare them, and which requests of CMake they must serve or refuse.
 VERSIONS = (
@@ -34,9 +37,12 @@ VERSIONS = (
 DOC = r"share/doc/cubejobs"
 PARTS = {
     "c": (r"include/cubejobs\w*\.(c|h|hpp)", r"lib/libcubejobs_(fit|plan|sched|regions|lanes|rounds)\.a",
-          r"lib/libcubejobs_(fit|plan|sched|regions|lanes|rounds)\.so(\.\d+\.\d+(\.\d+)?)?", r"lib/pkgconfig/cubejobs\w*\.pc",
-          r"lib/cmake/cubejobs/cubejobs-config(-version)?\.cmake", r"share/man/man3/cubejobs_\w+\.3", rf"{DOC}/docs/C\.md",
-          rf"{DOC}/examples/\w+\.c(pp)?", rf"{DOC}/examples/(?!processes|day|gang)\w+\.out", rf"{DOC}/examples/batch\.jobs",
+          r"lib/libcubejobs_(fit|plan|sched|regions|lanes|rounds)\.so(\.\d+\.\d+(\.\d+)?)?",
+          r"lib/pkgconfig/cubejobs\w*\.pc",
+          r"lib/cmake/cubejobs/cubejobs-config(-version)?\.cmake", r"share/man/man3/cubejobs_\w+\.3",
+          rf"{DOC}/docs/C\.md",
+          rf"{DOC}/examples/\w+\.c(pp)?", rf"{DOC}/examples/(?!processes|day|gang)\w+\.out",
+          rf"{DOC}/examples/batch\.jobs",
           rf"{DOC}/examples/mpi/\w+\.(c|md)"),
     "rust": (r"share/cubejobs/rust/.*", rf"{DOC}/docs/(RUST|SOURCE)\.md", rf"{DOC}/examples/batch\.jobs"),
     "python": (r"share/cubejobs/python/cubejobs/(\w+\.py|py\.typed)", rf"{DOC}/examples/(processes|day|gang)\.(py|out)",

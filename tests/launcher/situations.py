@@ -28,7 +28,8 @@ REFUSED = {
     "": "no command is given", "walk --dim 3": "'walk' is no command", "RUN --dim 3": "'RUN' is no command",
     "run": "run needs --dim", "replay --stations 2": "replay needs --dim",
 }
-JUDGED = ("run --dim=3", "place x --dim 3", "run --help", "run --version", "place -V", "--version", "help run", "check run",
+JUDGED = ("run --dim=3", "place x --dim 3", "run --help", "run --version", "place -V", "--version", "help run",
+          "check run",
           "messages")
 # Runs the release, and then a build, on a mount with noexec.
 ON_A_MOUNT = """

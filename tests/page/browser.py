@@ -107,15 +107,18 @@ class Visit:
                 self.open()
                 give(known)
                 self.page.wait("file")
-                self.is_same((self.page.script("file.rows.length"), self.text("name")), (rows, "known.csv"), f"a file that was {way}")
+                self.is_same((self.page.script("file.rows.length"), self.text("name")), (rows, "known.csv"),
+                             f"a file that was {way}")
                 give(unknown)
                 self.page.wait("!file")
-                self.expect(self.text("error").startswith("Not drawn. "), f"an unknown file that was {way}: {self.text('error')!r}")
+                self.expect(self.text("error").startswith("Not drawn. "),
+                            f"an unknown file that was {way}: {self.text('error')!r}")
         paste = f"""(() => {{ const data = new DataTransfer(); data.setData("text", {json.dumps(text)});
             document.body.dispatchEvent(new ClipboardEvent("paste", {{ clipboardData: data, bubbles: true }})); }})()"""
         self.open()
         self.page.script(paste)
-        self.is_same((self.page.script("file?.rows.length"), self.text("name")), (rows, "what was pasted"), "a text that was pasted")
+        self.is_same((self.page.script("file?.rows.length"), self.text("name")), (rows, "what was pasted"),
+                     "a text that was pasted")
 
     def plays(self):
         """Plays to the end of a file, where it stops by itself, and stops in the middle."""
@@ -142,13 +145,15 @@ class Visit:
             while not os.path.exists(saved) and time.monotonic() < end:
                 time.sleep(0.05)
             got = read(saved) if os.path.exists(saved) else None
-            self.expect(got == wanted and wanted.startswith("<svg"), f"what is saved: {str(got)[:80]!r}, of {os.listdir(folder)}")
+            self.expect(got == wanted and wanted.startswith("<svg"),
+                        f"what is saved: {str(got)[:80]!r}, of {os.listdir(folder)}")
 
     def strip(self):
         self.open("example=2&event=0")
         rows = int(self.page.script("by('at').max"))
         self.page.click("#overview")
-        self.expect(abs(self.page.script("at") - rows / 2) <= 1, f"a click in the middle of the strip goes to {self.text('count')}")
+        self.expect(abs(self.page.script("at") - rows / 2) <= 1,
+                    f"a click in the middle of the strip goes to {self.text('count')}")
 
     def keys(self):
         self.open("example=2&event=5")
@@ -170,7 +175,8 @@ class Visit:
         self.page.drag((x - 100, y), (x + 100, y))
         shown = self.page.script("zoomed?.length")
         wanted = 200 / self.page.script("(drawingWidth() - 58) / 48")
-        self.expect(shown is not None and abs(shown - wanted) < 2, f"a drag of 200 px shows {shown} rows and not {wanted:.1f}")
+        self.expect(shown is not None and abs(shown - wanted) < 2,
+                    f"a drag of 200 px shows {shown} rows and not {wanted:.1f}")
         self.expect(self.count("#scroll [data-span]") < blocks, "a drag shows fewer blocks")
         for _ in range(4):
             self.page.click("#zoomout")
@@ -183,7 +189,8 @@ class Visit:
         for k in (1, 0, 4):
             self.page.click(f"[data-take='{k}']")
         rows = "file.rows.map((row) => row.line)"
-        self.is_same(self.page.script(rows), ["take,a,1,0,given", "take,b,0,2,given", "take,c,4,-,nosubcube"], "the panel's rows")
+        self.is_same(self.page.script(rows), ["take,a,1,0,given", "take,b,0,2,given", "take,c,4,-,nosubcube"],
+                     "the panel's rows")
         self.page.click("#scroll [data-span='0']")
         self.page.click("[data-release='b']")
         self.is_same(self.page.script(rows)[3:], ["free,a,1,0,freed", "free,b,0,2,freed"], "the panel's releases")
@@ -214,7 +221,8 @@ class Visit:
         self.open()
         for name, text in (
             ("replay", f"'station,event,node,word,note\\n' + '{round_of_replay}'.repeat(333333)"),
-            ("run", f"'command,name,dim,base,outcome\\n' + Array.from({{ length: 500000 }}, (_, i) => `{round_of_place}`).join('')"),
+            ("run",
+             f"'command,name,dim,base,outcome\\n' + Array.from({{ length: 500000 }}, (_, i) => `{round_of_place}`).join('')"),
         ):
             took = self.page.script(f"""(() => {{ const text = {text}; const time = (act) => {{ const start = performance.now();
                 act(); document.body.offsetHeight; return performance.now() - start; }};

@@ -122,7 +122,8 @@ OF_EVERY_FILE = [
 # What the help of a command must not say, since the command cannot answer it.
 NOT_OF_A_COMMAND = [r"\bSpent\b", r"\bJob Empty\b", r"\bTooLarge\b", r"\bBadRoot\b", r"--quiet\b", r"--long\b"]
 EACH = [rf"\b{name}\b" for name in COMMANDS_OF_CLI]
-OF_RUN = [JOBS, REPLIES, VALUES, r"--long\b", *OF_EVERY_FILE, *OF_A_SHOP, *JOB_FAULTS, r"\bSpent\b", r"cubejobs run --dim \d"]
+OF_RUN = [JOBS, REPLIES, VALUES, r"--long\b", *OF_EVERY_FILE, *OF_A_SHOP, *JOB_FAULTS, r"\bSpent\b",
+          r"cubejobs run --dim \d"]
 HELPS = {
     "the program": ("--help", [*EACH, r"Usage: cubejobs <COMMAND>", r"-V, --version"]),
     "the program, in short": ("-h", EACH),

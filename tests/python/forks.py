@@ -99,7 +99,8 @@ def a_child_finds_planners_shut():
     ticket = planner.submit("kept", processors=1)
 
     def act():
-        calls = ((planner.next, (0,)), (planner.cancel, (ticket,)), (planner.finish, (ticket,)), (planner.forecast, (ticket,)),
+        calls = ((planner.next, (0,)), (planner.cancel, (ticket,)), (planner.finish, (ticket,)),
+                 (planner.forecast, (ticket,)),
                  (lambda: planner.submit(processors=1), ()), (planner.occupy, (0, 0)), (planner.vacate, (0, 0)),
                  (planner.counts, ()), (lambda: next(planner.jobs()), ()), (planner.close, ()), (leave, (planner,)))
         for call, arguments in calls:

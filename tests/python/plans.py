@@ -117,12 +117,14 @@ class Player:
 
 def numbers_out_of_range_are_refused():
     planner = Planner(3, jobs=2)
-    for words in ({"processors": 0}, {"processors": 9}, {"processors": 1, "estimate": 0}, {"processors": 1, "job_class": 8},
+    for words in ({"processors": 0}, {"processors": 9}, {"processors": 1, "estimate": 0},
+                  {"processors": 1, "job_class": 8},
                   {"processors": 1, "estimate": 2**64}):
         raises(ValueError, lambda words=words: planner.submit(**words))
     raises(TypeError, lambda: planner.submit(processors=1.5))
     raises(TypeError, planner.next, 0.5)
-    for call, words in ((planner.next, (NEVER,)), (planner.next, (-1,)), (planner.occupy, (1, 1)), (planner.occupy, (8, 0)),
+    for call, words in ((planner.next, (NEVER,)), (planner.next, (-1,)), (planner.occupy, (1, 1)),
+                        (planner.occupy, (8, 0)),
                         (planner.vacate, (0, 4)), (Planner, (21,)), (lambda: Planner(3, jobs=0), ()),
                         (lambda: Planner(3, jobs=2**24 + 1), ()), (lambda: Planner(3, patience=-1), ())):
         raises(ValueError, call, *words)
@@ -140,7 +142,8 @@ def foreign_tickets_are_refused():
 def a_closed_planner_is_shut():
     with Planner(3) as planner:
         ticket = planner.submit(processors=1)
-    for call in (lambda: planner.submit(processors=1), lambda: planner.next(0), lambda: planner.cancel(ticket), planner.counts,
+    for call in (lambda: planner.submit(processors=1), lambda: planner.next(0), lambda: planner.cancel(ticket),
+                 planner.counts,
                  lambda: next(planner.jobs())):
         raises(ValueError, call)
     planner.close()
