@@ -15,12 +15,12 @@ import shutil
 import subprocess
 import tempfile
 
-from checks.built import archive, beside, ffi, install, release
-from checks.built.install import needs
-from checks.lib.repository import path, read_bytes
-from checks.lib.rows import Row, Skipped, answer, must, output, put, run_rows
+from checks.built import archive, beside, release
+from checks.lib.c_programs import CALLS, FIT, LANES, PLAN, REGIONS, ROUNDS, SCHED, SECONDS, Program, must_run
+from checks.lib.repository import path, read_bytes, version_of_sources
+from checks.lib.rows import Row, Skipped, answer, must, needs, output, put, run_rows
 from checks.lib.toolchain import build_below, crates, kit, sum_of_sources
-from checks.source import version
+from tests.install.tables import IN_RUST
 
 RELEASE, TRIPLE, PROGRAM = release.AARCH64, "aarch64-unknown-linux-gnu", "jobs_cli"
 LIBRARIES, COMPILER, EMULATOR = "/usr/aarch64-linux-gnu", "aarch64-linux-gnu-gcc", "qemu-aarch64"
@@ -58,7 +58,7 @@ def helpers(room):
     made = []
     for name in ("heap", "os"):
         words = [f"{kit().KIT}/toolchain/bin/clang", f"--target={TRIPLE}", "-O2", "-fPIC", "-ffreestanding", "-Wall",
-                 "-Werror", "-c", path("checks", "built", f"aarch64_{name}.c"), "-o", f"{room}/{name}.o"]
+                 "-Werror", "-c", path("tests/c", f"aarch64_{name}.c"), "-o", f"{room}/{name}.o"]
         subprocess.run(words, check=True)
         made.append(f"{room}/lib{name}.a")
         subprocess.run([f"{kit().KIT}/toolchain/bin/llvm-ar", "rcsD", made[-1], f"{room}/{name}.o"], check=True)
@@ -69,18 +69,19 @@ def compile_crate(crate, out):
     """Builds a library or the program for aarch64, with what `rt` has kept of its proof."""
     kept = ["--incremental", "out/incremental"] if os.path.isdir(f"{crate.folder}/out/incremental") else []
     words = [kit().RATTLE, "build", *crate.words(["--jobs", "1"], keeps=False), *kept, "--target", TRIPLE]
-    status, said, more = answer([*words, "--toolchain", f"{kit().KIT}/toolchain", "-o", out], cwd=crate.folder, timeout=ffi.SECONDS)
+    status, said, more = answer([*words, "--toolchain", f"{kit().KIT}/toolchain", "-o", out], cwd=crate.folder,
+                                timeout=SECONDS)
     must(status == 0, f"{crate.name} was not built for aarch64: {(said + more).decode(errors='replace')[-600:]}")
 
 
 def build(folder):
     """Builds the libraries and the program into a folder."""
     known = crates()
-    build_below([known[name] for name in (*archive.LIBRARIES, PROGRAM)], after_gate=True)
+    build_below([known[name] for name in (*LIBRARIES, PROGRAM)], after_gate=True)
     os.makedirs(folder, exist_ok=True)
     with tempfile.TemporaryDirectory() as room:
         heap, system = helpers(room)
-        for name in archive.LIBRARIES:
+        for name in LIBRARIES:
             compile_crate(known[name], f"{room}/{name}.a")
         archive.make_all(archive.System(f"{room}/{{name}}.a", heap, f"{LIBRARIES}/lib/libc.so.6"), folder)
         compile_crate(known[PROGRAM], f"{room}/program.o")
@@ -96,7 +97,8 @@ def compare(folder):
     if held.said("sources") != sum_of_sources():
         raise Skipped("the files of release/ are of other sources; to renew them: checks/run aarch64 --renew FOLDER")
     if held.said("linked with") != packages():
-        raise Skipped(f"release/ was linked with {held.said('linked with')}, and here is {packages() or 'none of these'}")
+        here = packages() or "none of these"
+        raise Skipped(f"release/ was linked with {held.said('linked with')}, and here is {here}")
     faults = [*held.faults(folder)]
     must(not faults, "; ".join(faults))
 
@@ -114,17 +116,17 @@ def must_be_as_here(folder, built, words):
 
 def programs():
     """Yields C programs over the libraries, which must end well."""
-    fit, plan, sched, lanes, rounds, regions = archive.LIBRARIES
-    for name, library, words in (("fit", fit, ["2000", "1000"]), ("rounds", rounds, []),
-                                 ("regions", regions, ["500"]), ("wait", regions, ["100"]), ("lanes", lanes, ["500"]),
-                                 ("asleep", lanes, ["300"]), ("jobs", lanes, ["2000"]),
-                                 ("sched", sched, ["one"]), ("sched", sched, ["crowd", "1", "4", "8", "2000"])):
-        yield ffi.Program(ffi.CALLS(name), [library], C, (), words, [EMULATOR])
+    for name, library, words in (("fit", FIT, ["2000", "1000"]), ("rounds", ROUNDS, []),
+                                 ("regions", REGIONS, ["500"]), ("wait", REGIONS, ["100"]), ("lanes", LANES, ["500"]),
+                                 ("asleep", LANES, ["300"]), ("jobs", LANES, ["2000"]),
+                                 ("sched", SCHED, ["one"]), ("sched", SCHED, ["crowd", "1", "4", "8", "2000"])):
+        yield Program(CALLS(name), [library], C, (), words, [EMULATOR])
     # Not examples/fit.c: the emulator has no robust locks. There the lock of a process that died stays locked for ever.
-    for name, library in (("rounds", rounds), ("plan", plan), ("sched", sched), ("regions", regions), ("arena", regions),
-                          ("wait", regions), ("lanes", lanes)):
-        yield ffi.Program(f"examples/{name}.c", [library], C, (), (), [EMULATOR], f"examples/{name}.out")
-    yield ffi.Program("examples/lanes.cpp", [lanes], CXX, (), (), [EMULATOR], "examples/lanes.out")
+    for name, library in (("rounds", ROUNDS), ("plan", PLAN), ("sched", SCHED), ("regions", REGIONS),
+                          ("arena", REGIONS),
+                          ("wait", REGIONS), ("lanes", LANES)):
+        yield Program(f"examples/{name}.c", [library], C, (), (), [EMULATOR], f"examples/{name}.out")
+    yield Program("examples/lanes.cpp", [LANES], CXX, (), (), [EMULATOR], "examples/lanes.out")
 
 
 def needs_no_later_library(folder):
@@ -141,7 +143,7 @@ def in_rust(folder):
         name = f"CARGO_TARGET_{TRIPLE.upper().replace('-', '_')}"
         env = {**os.environ, "CUBEJOBS_LIB": folder, "CARGO_TARGET_DIR": room, f"{name}_LINKER": COMPILER,
                f"{name}_RUNNER": " ".join(WITH_LIBRARIES)}
-        for example, wanted in install.IN_RUST.items():
+        for example, wanted in IN_RUST.items():
             words = ["cargo", "run", "--quiet", "--offline", f"--target={TRIPLE}", "--example", example]
             more = ["--", path("examples", "batch.jobs")] if example == "batch" else []
             said = output([*words, *more], cwd=path("rust"), env=env, timeout=300)
@@ -152,7 +154,7 @@ def rows(folder):
     yield Row("the examples in Rust on aarch64", in_rust, (folder,))
     yield Row("the C library that is needed", needs_no_later_library, (folder,))
     for program in programs():
-        yield Row(" ".join([program.source, *program.words, "on aarch64"]), ffi.must_run, (folder, program))
+        yield Row(" ".join([program.source, *program.words, "on aarch64"]), must_run, (folder, program))
     built = path("crates", PROGRAM, "out", PROGRAM)
     built = built if os.path.exists(built) else os.path.join(release.RELEASE, "cubejobs")
     examples = path("examples")
@@ -161,7 +163,8 @@ def rows(folder):
                   ["report", "--dim", "3", f"{examples}/jobs.csv"], ["place", "--dim", "3", f"{examples}/place.csv"],
                   ["replay", f"{examples}/schedule.csv", "--dim", "2", "--stations", "3"], ["run", "--dim", "13"],
                   ["run", "--dim", "3", "missing.csv"], ["help"], []):
-        yield Row(f"cubejobs {' '.join(os.path.basename(it) for it in words)} on aarch64", must_be_as_here, (folder, built, words))
+        yield Row(f"cubejobs {' '.join(os.path.basename(it) for it in words)} on aarch64", must_be_as_here,
+                  (folder, built, words))
 
 
 def renew(folder):
@@ -170,7 +173,7 @@ def renew(folder):
     for name in release.COPIES:
         put(os.path.join(release.RUST, "aarch64", name), read_bytes(RELEASE, name))
     held = release.Release(RELEASE)
-    held.write_sums(version.of_sources(), release.build_here(), f"# linked with {packages()}")
+    held.write_sums(version_of_sources(), release.build_here(), f"# linked with {packages()}")
 
 
 def main(words):

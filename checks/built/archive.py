@@ -1,6 +1,6 @@
-"""Makes the libraries for C as they are shipped, each one file to link: `checks/run archive FOLDER` writes an archive for
-each of LIBRARIES there, libcubejobs_fit.a and so on, from what stands in the folders `out` of their crates. Of each it
-makes a shared object too, libcubejobs_fit.so and so on.
+"""Makes the libraries for C as they are shipped, each one file to link: `checks/run archive FOLDER` writes an archive
+for each of LIBRARIES there, libcubejobs_fit.a and so on, from what stands in the folders `out` of their crates. Of each
+it makes a shared object too, libcubejobs_fit.so and so on.
 
 A library that asks for memory gets the allocator of the toolchain, three functions round malloc, realloc and free. Of
 what a file defines, the functions of its header alone stay visible, so a program can link it beside another library of
@@ -15,12 +15,11 @@ import subprocess
 import tempfile
 from typing import NamedTuple
 
-from checks.lib.repository import path, read_bytes
+from checks.lib.c_programs import LIBRARIES
+from checks.lib.repository import path, read_bytes, version_of_sources
 from checks.lib.rows import Wrong, must, put
 from checks.lib.toolchain import kit
-from checks.source import version
 
-LIBRARIES = ("cubejobs_fit", "cubejobs_plan", "cubejobs_sched", "cubejobs_lanes", "cubejobs_rounds", "cubejobs_regions")
 # What the names of the headers' functions begin with.
 OWN = b"cubejobs_"
 SYMBOL = struct.Struct("<IBBHQQ")
@@ -113,7 +112,7 @@ def make(system, name, out, room):
 def share(system, name, folder, room):
     """Makes the shared object of a library of a folder."""
     tools = f"{kit().KIT}/toolchain/bin"
-    interface, names = ".".join(version.of_sources().split(".")[:2]), f"{room}/{name}.map"
+    interface, names = ".".join(version_of_sources().split(".")[:2]), f"{room}/{name}.map"
     put(names, f"CUBEJOBS_{interface} {{ global: cubejobs_*; local: *; }};\n".encode())
     flags = ["-z", "defs", "-z", "now", "--hash-style=gnu", "--build-id=none", "--as-needed", "--version-script", names]
     whole = ["--whole-archive", f"{folder}/lib{name}.a", "--no-whole-archive", system.libc]

@@ -2,15 +2,15 @@
 answers. It is compiled with checks of overflow.
 
 `checks/run beside [--long] [--slips [NAME..]]`. In the gate it makes 100,000 calls of each library, and with `--long`
-1,000,000. With `--slips`, and with `--long`, it puts each slip of SLIPS into a copy of the text or of the shim, and
-must see a difference.
+1,000,000. With `--slips`, and with `--long`, it puts each slip of OF_ANSWERS into a copy of the text or of the shim,
+and must see a difference.
 
-A driver in Rattle makes 60,000 calls of the proved crates, and prints each answer. It runs by `rt try`, without a proof.
-Its own erased text runs over the erased crates, and must print the same. With `--slips` it must see those of SEEN. With
-`--long` an interpreter of Rattle runs it too, beside what the compiler of Rattle makes.
+A driver in Rattle makes 60,000 calls of the proved crates, and prints each answer. It runs by `rt try`, without a
+proof. Its own erased text runs over the erased crates, and must print the same. With `--slips` it must see those of
+SEEN_BY_THE_DRIVER. With `--long` an interpreter of Rattle runs it too, beside what the compiler of Rattle makes.
 
-A self-test makes 300,000 calls of the Rust package, and gives a number that depends on each answer. Both forms must give
-the same one. With `--long` it must be the same on other processors, and in WebAssembly by node.
+A self-test makes 300,000 calls of the Rust package, and gives a number that depends on each answer. Both forms must
+give the same one. With `--long` it must be the same on other processors, and in WebAssembly by node.
 
 With `--long` ThreadSanitizer watches plain memory that blocks and jobs guard, where `rustc +nightly` has it. The same
 program with relaxed orders in the shim must be seen. The tests of the Rust package run on other processors, by
@@ -22,14 +22,14 @@ import os
 import shutil
 import subprocess
 import tempfile
-from typing import NamedTuple
 
 from checks.lib import erase
 from checks.lib.repository import path, read, write
-from checks.lib.rows import Row, Skipped, answer, must, run_rows
+from checks.lib.rows import Row, Skipped, answer, must, needs, run_rows
+from tests.faults.slips import OF_ANSWERS, SEEN_BY_THE_DRIVER, Slip
 
 CALLS, MANY, ROUNDS, SECONDS = 100_000, 1_000_000, 16_000, 1800
-PROGRAM, RACE, RELEASE = "checks/built/beside.rs", "checks/built/race.rs", "release/linux-x86_64"
+PROGRAM, RACE, RELEASE = "tests/rust/beside.rs", "tests/rust/race.rs", "release/linux-x86_64"
 WORDS = ["--edition", "2021", "-Coverflow-checks=on", "-Cdebug-assertions=on", "-O"]
 FEATURES = [f'--cfg=feature="{it}"' for it in ("lanes", "plan", "regions", "sched", "std")]
 
@@ -44,50 +44,15 @@ TARGETS = (
 
 
 # The self-test in WebAssembly. A toolchain of Debian has no linker of its own.
-SELF_TEST, WASM = "checks/built/selftest.rs", "wasm32-unknown-unknown"
+SELF_TEST, WASM = "tests/rust/selftest.rs", "wasm32-unknown-unknown"
 WASM_LINKERS = ("wasm-ld", "wasm-ld-19")
 RUN_WASM = """import { readFileSync } from "node:fs";
 const { instance } = await WebAssembly.instantiate(readFileSync(process.argv[1]), {});
 console.log(BigInt.asUintN(64, instance.exports.selftest()).toString());"""
 
 # The driver, what it uses, and how many steps its interpreter makes at most.
-DRIVER, STEPS = "checks/built/driver", 5 * 10**9
+DRIVER, STEPS = "tests/driver", 5 * 10**9
 USED = "bitmap_occupancy bitmap_tree collectives cube_shape cubejobs_fit fit_tree job_lanes rank_steps wake_calls"
-
-
-class Slip(NamedTuple):
-    """A slip: its name, a file of `rust/src/source`, a text of it, and what is put there."""
-
-    name: str
-    file: str
-    old: str
-    new: str
-
-
-SLIPS = (
-    Slip("the exchange says that it won", "kit/atomic_table.rs", "Ok(found) | Err(found) => found,",
-         "Ok(_) | Err(_) => old,"),
-    Slip("the swap returns the new word", "kit/atomic_table.rs", "(self.0[word].swap(new, SeqCst), ",
-         "(self.0[word].swap(new, SeqCst).max(new), "),
-    Slip("a slot stays taken", "kit/counted_slot.rs", "self.0.word.store(new, SeqCst);",
-         "self.0.word.store(new | TAKEN, SeqCst);"),
-    Slip("a queue returns its last job first", "kit/collections.rs", "self.0.pop_front()", "self.0.pop_back()"),
-    Slip("a mask is one bit short", "bitmap_tree/mask.rs", "(64 - (1u32 << k))) << offset",
-         "(64 - (1u32 << k))) << offset >> (k / 5)"),
-    Slip("a search forgets where it begins", "bitmap_tree/marks.rs", "words & (u64::MAX << (from % 64))", "words"),
-    Slip("a descent goes right too soon", "fit_tree/walks.rs", "if rooms[node] < least {", "if rooms[node] <= least {"),
-    Slip("a full block is released", "fit_tree/image.rs", "let held = rooms[node] == 0;", "let held = rooms[node] <= 1;"),
-    Slip("a lane takes a job more", "job_lanes/submits.rs", "count - taken < self.plan", "count - taken <= self.plan"),
-    Slip("a worker that sleeps is not noticed", "wake_calls/steps.rs", "SEARCH {\n        return Noticed",
-         "1 {\n        return Noticed"),
-    Slip("an end that is late is not known", "sched_core/small.rs", "now.saturating_add(estimate)", "now.wrapping_add(estimate)"),
-    Slip("a closed scheduler takes jobs", "sched_board/board.rs", "            return Err(BoardRefusal::Closed);\n", ""),
-    Slip("the whole machine is refused", "cubejobs_fit/faults.rs", "fault == DONE && k > n", "fault == DONE && k >= n"),
-)
-
-# Those that the driver must see. It does not call what the others are in, or has one thread, which does not meet them.
-SEEN = [it for it in SLIPS if it.name not in (
-    "the swap returns the new word", "a slot stays taken", "an end that is late is not known", "a closed scheduler takes jobs")]
 
 
 def built(root, folder, source=PROGRAM, more=()):
@@ -101,8 +66,7 @@ def built(root, folder, source=PROGRAM, more=()):
 
 def all_same(calls):
     """Sees that all answers are the same."""
-    if not shutil.which("rustc"):
-        raise Skipped("there is no rustc")
+    needs("rustc")
     with tempfile.TemporaryDirectory() as folder:
         status, out, err = answer([built(path(), folder), str(calls)], "", timeout=SECONDS, text=True)
     must(status == 0, err[:2000])
@@ -135,7 +99,8 @@ def differs(slip):
 
 
 def driver_sources():
-    """Returns the texts of the driver by name. Its files end in .in, since `rt ci` refuses sources that no crate has."""
+    """Returns the texts of the driver by name. Its files end in .in, since `rt ci` refuses sources that no crate
+    has."""
     names = sorted(it for it in os.listdir(path(DRIVER)) if it.endswith(".rt.in"))
     return {name.removesuffix(".rt.in"): read(DRIVER, name) for name in names}
 
@@ -143,8 +108,7 @@ def driver_sources():
 @functools.cache
 def driven(steps):
     """Runs the driver by `rt try`, in a copy of the crates in which each is a library. Returns what it prints."""
-    if not shutil.which("rt"):
-        raise Skipped("there is no rt")
+    needs("rt")
     with tempfile.TemporaryDirectory() as folder:
         shutil.copytree(path("crates"), f"{folder}/crates", ignore=shutil.ignore_patterns("out"))
         for name, text in driver_sources().items():
@@ -173,8 +137,7 @@ def erased_driver(slips):
 
 def prints_the_same(steps):
     """Sees that the driver and its erased text print the same."""
-    if not shutil.which("rustc"):
-        raise Skipped("there is no rustc")
+    needs("rustc")
     here = driven(steps)
     found = difference(here, *erased_driver([]))
     must(not found, found)
@@ -241,7 +204,8 @@ def self_test(compiler, form, runner, *words):
         library, program = f"{folder}/libcubejobs.rlib", f"{folder}/selftest"
         common = ["nice", compiler, "--edition=2021", "-O", f"-Lnative={path(RELEASE)}"]
         target = [it for it in words if it.startswith("--target")]
-        package = ["--crate-name=cubejobs", "--crate-type=rlib", *features, *target, path("rust/src/lib.rs"), "-o", library]
+        package = ["--crate-name=cubejobs", "--crate-type=rlib", *features, *target, path("rust/src/lib.rs")]
+        package += ["-o", library]
         for made in (package, [*words, f"--extern=cubejobs={library}", path(SELF_TEST), "-o", program]):
             status, _, err = answer([*common, *made], "", timeout=SECONDS, text=True)
             must(status == 0 and "warning" not in err, f"rustc: {err[:2000]}")
@@ -297,9 +261,9 @@ def main(words):
                              Row("a self-test gives the same number in both forms", same_in_both_forms),
                              Row("a driver in Rattle and its erased text", prints_the_same, (STEPS if is_long else 1,))]
     if is_long or "--slips" in words:
-        rows += [Row(it.name, differs, (it,)) for it in SLIPS if not names or it.name in names]
-        rows += [Row(f"by the driver: {it.name}", prints_another, (STEPS if is_long else 1, it)) for it in SEEN
-                 if not names or it.name in names]
+        rows += [Row(it.name, differs, (it,)) for it in OF_ANSWERS if not names or it.name in names]
+        rows += [Row(f"by the driver: {it.name}", prints_another, (STEPS if is_long else 1, it))
+                 for it in SEEN_BY_THE_DRIVER if not names or it.name in names]
     if is_long:
         for what in ("blocks", "lanes"):
             rows.append(Row(f"no race beside {what}", watched, (what, [])))

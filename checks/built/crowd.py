@@ -1,8 +1,8 @@
 """Has many threads use the bitmap tree and the job lanes at length, and looks at what they count.
 
-Sixteen threads take blocks of mixed sizes, keep several, and release them in any order, over a table with a bit for each
-processor (`bitmap_trial crowd`). No processor may be in two blocks at once, all takes must be made, and the words must
-be those of a new machine in the end. Sixteen producers submit jobs to lanes, from which eight workers take them
+Sixteen threads take blocks of mixed sizes, keep several, and release them in any order, over a table with a bit for
+each processor (`bitmap_trial crowd`). No processor may be in two blocks at once, all takes must be made, and the words
+must be those of a new machine in the end. Sixteen producers submit jobs to lanes, from which eight workers take them
 (`lane_bench`). Each job must come out once, with its payload and its dimension, and in the order of its lane.
 `checks/run crowd [CALLS]` makes 10^8 takes of blocks and 10^7 submits of jobs, or at least this number of each.
 """
@@ -26,7 +26,8 @@ def pass_jobs(each):
     """Has each producer submit this number of jobs."""
     words = [BENCH, str(THREADS), str(WORKERS), str(CAPACITY), str(each)]
     status, out, said = answer(words, timeout=SECONDS)
-    must(status == 0 and out.decode() == f"{THREADS * each} {THREADS * each} 0\n", f"status {status}, {out!r}, {said!r}")
+    must(status == 0 and out.decode() == f"{THREADS * each} {THREADS * each} 0\n",
+         f"status {status}, {out!r}, {said!r}")
 
 
 def main(words):

@@ -17,8 +17,7 @@ import time
 
 from checks.lib.repository import read_bytes as holds
 from checks.lib.rows import (
-    AS_NOBODY, ENDING, NOBODY, Row, Skipped, answer, comes, heed_signals, methods, must, put, run_rows, title,
-)
+    AS_NOBODY, ENDING, NOBODY, Row, Skipped, answer, comes, heed_signals, methods, must, needs, put, run_rows, title)
 from checks.lib.toolchain import program, shim
 
 JOBS = b"lane,kind,op,root,items\n0,scan,add,0,7\n"
@@ -268,8 +267,7 @@ class Parts(Files):
     def minds_what_comes_between(self):
         """The file is on its disk before it is renamed. It is removed where the rename fails. Another file that got its
         name is neither renamed nor removed."""
-        if not shutil.which("gcc"):
-            raise Skipped("there is no gcc")
+        needs("gcc")
         shims, folder = shim("files.c", self.made), self.folder()
         under = {what: {**os.environ, "LD_PRELOAD": shims, "STAND_IN": what} for what in ("refuse", "swap", "order")}
         put(folder / "old.csv")

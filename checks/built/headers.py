@@ -50,11 +50,13 @@ SCHED, WAIT = "cubejobs_sched.h", "cubejobs_wait.h"
 OF_FIT = "struct cubejobs_fit fit; (void)&fit"
 OF_PLAN = "struct cubejobs_plan plan; static struct cubejobs_plan_options options; static struct cubejobs_plan_request "
 OF_PLAN += "request; (void)&plan; (void)&options; (void)&request"
-OF_SCHED = "struct cubejobs_sched sched; static struct cubejobs_sched_options options; static struct cubejobs_sched_request "
-OF_SCHED += "request; static struct cubejobs_sched_worker worker; (void)&sched; (void)&options; (void)&request; (void)&worker"
-OF_REGIONS = "struct cubejobs_regions one, other; static struct cubejobs_block block, half; (void)&other; (void)&half; (void)&block"
-OF_LANES = "struct cubejobs_lanes lanes; static struct cubejobs_lane lane; static struct cubejobs_worker worker; (void)&lanes; "
-OF_LANES += "(void)&lane; (void)&worker"
+OF_SCHED = ("struct cubejobs_sched sched; static struct cubejobs_sched_options options; "
+            "static struct cubejobs_sched_request request; static struct cubejobs_sched_worker worker; "
+            "(void)&sched; (void)&options; (void)&request; (void)&worker")
+OF_REGIONS = ("struct cubejobs_regions one, other; static struct cubejobs_block block, half; "
+              "(void)&other; (void)&half; (void)&block")
+OF_LANES = ("struct cubejobs_lanes lanes; static struct cubejobs_lane lane; static struct cubejobs_worker worker; "
+            "(void)&lanes; (void)&lane; (void)&worker")
 OF_PARKING = f"{OF_LANES}; static struct cubejobs_parking parking; (void)&parking"
 CALLS = (
     Call(REGIONS, OF_REGIONS, "cubejobs_regions_open(&one, 3)"),
@@ -123,7 +125,8 @@ def refusal(folder, compiler, standard, names, flags=()):
 
 
 def refusal_of(compiler, standard, text, flags):
-    words = [compiler, f"-std={standard}", *WARNINGS, *MORE[compiler], *flags, "-O1", "-x", COMPILERS[compiler][0], "-c", "-"]
+    words = [compiler, f"-std={standard}", *WARNINGS, *MORE[compiler], *flags, "-O1", "-x", COMPILERS[compiler][0],
+             "-c", "-"]
     status, _, said = answer([*words, *NOWHERE], text, text=True)
     return "" if status == 0 and not said else said or "it failed with no word"
 
@@ -156,7 +159,8 @@ def must_not_be_ignored(folder, compiler, standard, call):
 def must_have_each_case(folder, compiler, standard, kind):
     """Sees that a switch over codes is complete, and that one which lacks a code is not."""
     header, enum, value = kind
-    codes = re.findall(r"^    (CUBEJOBS_\w+) = \d+", read(folder, header).partition(f"enum {enum} {{")[2].partition("};")[0], re.M)
+    codes = re.findall(r"^    (CUBEJOBS_\w+) = \d+",
+                       read(folder, header).partition(f"enum {enum} {{")[2].partition("};")[0], re.M)
     for left in (codes, codes[:-1]):
         cases = " ".join(f"case {it}:" for it in left)
         text = f'#include "{header}"\nint act({value[0]} it);\nint act({value[0]} it) {{ '
@@ -207,7 +211,8 @@ def main(words):
     rows = [Row(f"a fault that is seen: {fault[2]!r}", must_be_seen, (folder, oldest, *fault)) for fault in FAULTS]
     for compiler, standards in known.items():
         for standard in {standards[0], standards[-1]}:
-            rows += [Row(f"{compiler} -std={standard}: {it.words} is used", must_not_be_ignored, (folder, compiler, standard, it))
+            rows += [Row(f"{compiler} -std={standard}: {it.words} is used", must_not_be_ignored,
+                         (folder, compiler, standard, it))
                      for it in CALLS if standard not in LATER.get(it.header, ())]
             rows += [Row(f"{compiler} -std={standard}: the cases of {it[2][0]}", must_have_each_case,
                          (folder, compiler, standard, it)) for it in KINDS]

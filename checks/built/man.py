@@ -23,8 +23,8 @@ GATHERED = (
     ("DIAGNOSTICS", ("Faults of the input", "Other faults", "Faults of a file")),
     ("NOTES", ("Records", "Memory", "")),
 )
-SEE_ALSO = ("cubejobs_fit(3), cubejobs_lanes(3), cubejobs_plan(3), cubejobs_regions(3), cubejobs_rounds(3), cubejobs_sched(3), "
-            "cubejobs_wait(3), mlr(1), sqlite3(1)")
+SEE_ALSO = ("cubejobs_fit(3), cubejobs_lanes(3), cubejobs_plan(3), cubejobs_regions(3), cubejobs_rounds(3), "
+            "cubejobs_sched(3), cubejobs_wait(3), mlr(1), sqlite3(1)")
 
 
 class Help(NamedTuple):

@@ -7,9 +7,8 @@ import re
 import shutil
 import textwrap
 
-from checks.lib.repository import path, read, write
+from checks.lib.repository import path, read, version_of_sources, write
 from checks.lib.rows import answer, must, print_faults
-from checks.source import version
 
 # Each library: its header, and the other headers that belong to its page.
 LIBRARIES = {
@@ -66,7 +65,8 @@ def declarations(text):
     for found in ENTRY.finditer(text):
         names = [it for it in FUNCTION.finditer(found["code"])]
         if names:
-            shown = [re.sub(r"^static |\b(?:[A-Z_]*INLINE|inline)\b ?|__attribute__\(\(\w+\)\) ?", "", it[0]) + ";" for it in names]
+            shown = [re.sub(r"^static |\b(?:[A-Z_]*INLINE|inline)\b ?|__attribute__\(\(\w+\)\) ?", "", it[0]) + ";"
+                     for it in names]
             yield [it[1] for it in names], list(map(wrapped, shown)), plain(found["says"])
 
 
@@ -85,7 +85,7 @@ def page(library):
                           for names, code, says in found)
     others = ", ".join(f".BR {it} (3)" for it in LIBRARIES if it != library).replace(", .BR", " ,\n.BR")
     return "\n".join([
-        f'.TH {library.upper()} 3 "" "cubejobs {version.of_sources()}"',
+        f'.TH {library.upper()} 3 "" "cubejobs {version_of_sources()}"',
         f".\\\" Made of include/{header} by checks/run manual.",
         ".nh",
         f".SH NAME\n{library} \\- {escaped(about)}",
@@ -102,7 +102,8 @@ def left_out(library):
     names = {it[1] for it in FUNCTION.finditer(COMMENT.sub("", text)) if not INNER.search(it[1])}
     if library in WITHOUT_CODES:
         shown = [names[0] for names, _, says in declarations(text) if "Codes:" in says]
-        names = {*WITHOUT_CODES[library], *shown, *(["a function with codes"] if len(shown) != text.count("Codes:") else [])}
+        names = {*WITHOUT_CODES[library], *shown,
+                 *(["a function with codes"] if len(shown) != text.count("Codes:") else [])}
     return sorted(it for it in names if f" {it}(" not in page(library).replace("*", " ").replace("\n    ", " "))
 
 

@@ -120,7 +120,8 @@ class Command:
 
     def may_fail_by(self, got, wanted):
         status, out, said, *files = got
-        named = [f"failed: {side}: OutOfMemory: {name}\n".encode() for side, name in SIDES.items() if name in self.words]
+        named = [f"failed: {side}: OutOfMemory: {name}\n".encode()
+                 for side, name in SIDES.items() if name in self.words]
         # The output is in place before the events, so it may be whole where these could not be put in place.
         is_late = self.written == [OUTPUT_FILE, EVENTS_FILE] and said == named[-1]
         is_kept = files == [OLD] * len(files) or (is_late and files == [wanted[3], OLD])
@@ -162,8 +163,8 @@ def refuse_each(built, shims, arguments, text, counts):
 
 
 def refuse_second_line(built, shims):
-    """Refuses each request of a command that refuses its file, with a terminal as standard error. It shows the two lines
-    of such a file, or the first of them, or that memory ran out."""
+    """Refuses each request of a command that refuses its file, with a terminal as standard error. It shows the two
+    lines of such a file, or the first of them, or that memory ran out."""
     first, second = b"refused: record 1: Word\n", b'  line 2, field command: "give"; wanted: take or free\n'
     with tempfile.TemporaryDirectory() as folder:
         put(os.path.join(folder, INPUT_FILE), b"command,name,dim\ngive,a,-\n")
@@ -192,8 +193,8 @@ def refuse_second_line(built, shims):
 
 
 def must_reserve_events(built, shims):
-    """Sees that the room for all events is asked for before the first thread starts: it counts the bytes that a run asks
-    for before that, with events and without."""
+    """Sees that the room for all events is asked for before the first thread starts: it counts the bytes that a run
+    asks for before that, with events and without."""
     text, sizes = HEADER.encode() + LONG * b"0,allreduce,add,0,1\n1,allreduce,add,0,1\n", []
     with tempfile.TemporaryDirectory() as folder:
         for more in ("", f" --events {EVENTS_FILE}"):

@@ -1,13 +1,13 @@
 """Sees wrong use of the libraries for C, and what helps to find it (a part of ffi).
 
-A program with CUBEJOBS_CHECK refuses old copies of handles, and does not link with a file that lacks it. Two plug-ins refuse
-each other's blocks. ThreadSanitizer sees two threads with one handle. A crash inside plain Rust has a whole backtrace.
+A program with CUBEJOBS_CHECK refuses old copies of handles, and does not link with a file that lacks it. Two plug-ins
+refuse each other's blocks. ThreadSanitizer sees two threads with one handle. A crash inside plain Rust has a whole
+backtrace.
 """
 import os
 
-from checks.built.install import needs
 from checks.lib.repository import path
-from checks.lib.rows import Row, answer, must
+from checks.lib.rows import Row, answer, must, needs
 
 SECONDS = 600
 INCLUDE = f"-I{path('include')}"
@@ -54,7 +54,7 @@ def owners_are_checked(room, *libraries):
     needs("g++")
     compiled(["gcc", *STRICT, CHECK, "-c", CHECKER, "-o", f"{room}/checker.o"])
     words = ["g++", "-std=c++11", CHECK, INCLUDE, "-O1", "-Wall", "-Wextra", "-Werror", "-Wno-self-move"]
-    words += [path("checks/built/owners_calls.cpp"), f"{room}/checker.o", *libraries, "-pthread", "-lm"]
+    words += [path("tests/c/owners_calls.cpp"), f"{room}/checker.o", *libraries, "-pthread", "-lm"]
     compiled([*words, "-o", f"{room}/owners"])
     status, out, said = answer([f"{room}/owners"], timeout=SECONDS)
     must(status == 0, f"status {status}: {(out + said).decode(errors='replace')[:600]}")
@@ -62,7 +62,7 @@ def owners_are_checked(room, *libraries):
 
 def plugins_are_apart(room, library):
     """Loads two plug-ins, each with the archive and a machine of its own."""
-    source, made = path("checks/built/plugin.c"), []
+    source, made = path("tests/c/plugin.c"), []
     for number in range(2):
         made.append(f"{room}/plugin{number}.so")
         compiled(["gcc", *STRICT, "-shared", "-fPIC", "-DPLUGIN", source, library, "-pthread", "-lm", "-o", made[-1]])
@@ -72,7 +72,7 @@ def plugins_are_apart(room, library):
 
 
 def one_handle_is_seen(room, library, flags):
-    words = ["gcc", *STRICT, "-fsanitize=thread", *flags, path("checks/built/one_handle.c"), library, "-pthread", "-lm"]
+    words = ["gcc", *STRICT, "-fsanitize=thread", *flags, path("tests/c/one_handle.c"), library, "-pthread", "-lm"]
     compiled([*words, "-o", f"{room}/one_handle"])
     for _ in range(10):
         status, _, said = answer(["setarch", "-R", f"{room}/one_handle"], timeout=SECONDS)
@@ -91,7 +91,7 @@ def crash_has_its_frames(room):
     must(name.startswith("libcubejobs_source.so."), f"the shared object has the name {name!r}")
     must(os.path.getsize(shared) < 600_000, f"the shared object has {os.path.getsize(shared)} bytes")
     os.symlink(shared, f"{room}/{name}")
-    compiled(["gcc", *STRICT, "-rdynamic", path("checks/built/backtrace.c"), shared, "-o", f"{room}/crash"])
+    compiled(["gcc", *STRICT, "-rdynamic", path("tests/c/backtrace.c"), shared, "-o", f"{room}/crash"])
     status, out, said = answer([f"{room}/crash"], timeout=SECONDS, env={**os.environ, "LD_LIBRARY_PATH": room})
     frames = [it for it in ("cubejobs_regions_take", "(crash+", "_start") if it not in out.decode(errors="replace")]
     must(status == 0 and not frames, f"status {status}, no {frames}: {(out + said).decode(errors='replace')[:600]}")
@@ -102,7 +102,8 @@ def rows(room, regions, lanes, exact, plan):
     yield Row("the owners of C++ in a checking build", owners_are_checked, (room, regions, lanes, exact, plan))
     for linker in LINKERS:
         for order in ((0, 1, 2), (2, 1, 0), (1, 2, 0)):
-            yield Row(f"files with and without checks by {linker}, {order}", does_not_mix, (room, regions, linker, order))
+            yield Row(f"files with and without checks by {linker}, {order}", does_not_mix,
+                      (room, regions, linker, order))
     yield Row("two plug-ins", plugins_are_apart, (room, regions))
     yield Row("two threads with one handle of regions", one_handle_is_seen, (room, regions, ()))
     yield Row("two threads with one worker of lanes", one_handle_is_seen, (room, lanes, ("-DONE_WORKER",)))

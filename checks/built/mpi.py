@@ -2,22 +2,21 @@
 a folder, or those of release/.
 
 It runs 500 random jobs of every kind, by rounds and by MPI's own collectives, and compares the bytes with those of
-`cubejobs run`. Each decision that the trace has must be that of the plain model of the planner. The messages of each job
-must be those of the textbook's trees and exchanges. Ctrl-C must cancel what waits. Wrong programs must be seen, and bad
-files named by line and field. It is skipped where mpicc or mpirun is not there.
+`cubejobs run`. Each decision that the trace has must be that of the plain model of the planner. The messages of each
+job must be those of the textbook's trees and exchanges. Ctrl-C must cancel what waits. Wrong programs must be seen, and
+bad files named by line and field. It is skipped where mpicc or mpirun is not there.
 """
 import collections
 import os
 import random
-import shutil
 import signal
 import subprocess
 import tempfile
 import time
 
-from checks.built.plan_model import DONE, NO_JOB, Model
 from checks.lib.repository import path, read
-from checks.lib.rows import Row, Skipped, Wrong, answer, comes, must, output, put, run_rows
+from checks.lib.rows import Row, Skipped, Wrong, answer, comes, must, needs, output, put, run_rows
+from tests.models.plan_model import DONE, NO_JOB, Model
 
 RELEASE, SOURCE = path("release", "linux-x86_64"), "examples/mpi/cubempi.c"
 DIM, JOBS, SECONDS = 3, 500, 60
@@ -62,8 +61,7 @@ def random_jobs(seed):
 
 def build(folder, room, source=None, compiler="gcc"):
     """Compiles the example, or another text of it. Returns the program."""
-    if not shutil.which(compiler):
-        raise Skipped(f"no {compiler} here")
+    needs(compiler)
     file = path(SOURCE)
     if source:
         file = f"{room}/wrong.c"
@@ -105,7 +103,8 @@ class Plan:
 
     def start(self, job, base, now):
         code, told = self.model.next(now)
-        must(code == DONE and (told[8], told[1]) == (job, base), f"job {job} starts at {base}, and the model says {told}")
+        must(code == DONE and (told[8], told[1]) == (job, base),
+             f"job {job} starts at {base}, and the model says {told}")
         self.most = max(self.most, self.model.counts()[1])
 
     def rest(self, now):
@@ -152,13 +151,15 @@ def must_stop(program, room, text):
     words = ["mpirun", *(OF_OPEN_MPI if is_open_mpi() else []), "-n", str((1 << DIM) + 1), program]
     words += ["--trace", f"{room}/stopped", "--out", f"{room}/out", f"{room}/many.csv"]
     with subprocess.Popen(words, env={**os.environ, **QUIET}, stderr=subprocess.DEVNULL) as ran:
-        must(comes(lambda: os.path.exists(f"{room}/stopped") and os.path.getsize(f"{room}/stopped"), SECONDS), "no job starts")
+        must(comes(lambda: os.path.exists(f"{room}/stopped") and os.path.getsize(f"{room}/stopped"), SECONDS),
+             "no job starts")
         time.sleep(0.2)
         ran.send_signal(signal.SIGINT)
         ran.wait(SECONDS)
     words = [line.split(",")[0] for line in open(f"{room}/stopped", encoding="utf-8")]
     rows_of_jobs = read(f"{room}/out").count("\n") - 1
-    must(rows_of_jobs == words.count("end") == words.count("start"), f"{rows_of_jobs} rows, {words.count('start')} starts")
+    must(rows_of_jobs == words.count("end") == words.count("start"),
+         f"{rows_of_jobs} rows, {words.count('start')} starts")
     must(0 < rows_of_jobs < JOBS * AGAIN, f"{rows_of_jobs} jobs ran")
     return f"{rows_of_jobs} of {JOBS * AGAIN} jobs"
 
@@ -224,8 +225,6 @@ def rows(folder, room):
 
 def main(words):
     folder = os.path.realpath(words[0]) if words else RELEASE
-    for tool in ("mpicc", "mpirun"):
-        if not shutil.which(tool):
-            raise Skipped(f"no {tool} here")
+    needs("mpicc", "mpirun")
     with tempfile.TemporaryDirectory(prefix="mpi-") as room:
         return run_rows("mpi", rows(folder, room), says_ok=True)

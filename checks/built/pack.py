@@ -8,15 +8,13 @@ files of release/. They are small and made at will, so the repository does not k
 import gzip
 import os
 import re
-import shutil
 import subprocess
 import tarfile
 import tempfile
 
-from checks.built.install import clone_with, tree
-from checks.lib.repository import ROOT, path, read, write
-from checks.lib.rows import Row, Skipped, answer, must, run_rows
-from checks.source import version
+from checks.lib.clones import clone_with, tree
+from checks.lib.repository import ROOT, path, read, version_of_sources, write
+from checks.lib.rows import Row, answer, must, needs, run_rows
 
 # What the tarball has, of the files that git knows.
 PARTS = ("CHANGELOG.md", "README.md", "SECURITY.md", "completions", "docs", "examples", "include", "install", "python",
@@ -58,7 +56,7 @@ def files(clone):
 
 def tarball(clone, out):
     """Writes the tarball, and returns its path. Its bytes depend on the files alone."""
-    name = f"cubejobs-{version.of_sources()}"
+    name = f"cubejobs-{version_of_sources()}"
     made = os.path.join(out, f"{name}-linux.tar.gz")
     with open(made, "wb") as raw, gzip.GzipFile("", "wb", 9, raw, 0) as packed, \
             tarfile.open(fileobj=packed, mode="w", format=tarfile.PAX_FORMAT) as tar:
@@ -79,9 +77,8 @@ def processors(clone):
 
 def debian(clone, out, processor="x86_64"):
     """Writes the Debian package for a processor, and returns its path."""
-    if not shutil.which("dpkg-deb"):
-        raise Skipped("no dpkg-deb here")
-    number, architecture = version.of_sources().replace("-", "~"), PROCESSORS[processor]
+    needs("dpkg-deb")
+    number, architecture = version_of_sources().replace("-", "~"), PROCESSORS[processor]
     made = os.path.join(out, f"cubejobs_{number}_{architecture}.deb")
     with tempfile.TemporaryDirectory() as room:
         os.chmod(room, 0o755)
@@ -129,9 +126,10 @@ def installs_from_a_tarball(clone, work):
     with tarfile.open(tarball(clone, room)) as it:
         # Not each Python 3.11 has this filter.
         it.extractall(room, **({"filter": "data"} if hasattr(tarfile, "data_filter") else {}))
-    for top in (clone, os.path.join(room, f"cubejobs-{version.of_sources()}")):
+    for top in (clone, os.path.join(room, f"cubejobs-{version_of_sources()}")):
         places.append(os.path.join(work, f"installed{len(places)}"))
-        status, _, said = answer([os.path.join(top, "install"), "--prefix", "/p", "--destdir", places[-1]], "", text=True)
+        status, _, said = answer([os.path.join(top, "install"), "--prefix", "/p", "--destdir", places[-1]], "",
+                                 text=True)
         must(status == 0 and not said, f"install: status {status}, {said!r}")
     must(tree(places[0]) == tree(places[1]), "the tarball installs something else than a clone")
 

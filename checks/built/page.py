@@ -4,8 +4,8 @@ and the examples in the page, with `--draw` and `--module` also the library in t
 What the page shows after each event of a schedule is compared with a replay that is cut there: the words with its end
 rows, the row, and that there is a sentence for it. What it shows after each command of `place` is compared with the
 rows. Files that are no output of the program must each be refused with a reason. The rules of the tree must accept each
-row of random schedules, and name each row that was altered. The proved library in the page must be the one that
-the toolchain builds from crates/cubejobs_fit, and answer 10,000 calls as `place` does. The pictures of docs/ must be those
+row of random schedules, and name each row that was altered. The proved library in the page must be the one that the
+toolchain builds from crates/cubejobs_fit, and answer 10,000 calls as `place` does. The pictures of docs/ must be those
 that the page draws.
 
 The scripts of the page run under node; where there is a Chromium, the page itself is opened in it too: at several
@@ -18,82 +18,16 @@ import random
 import re
 import shutil
 
-from checks.built import page_browser, plan_picture
+from checks.built import plan_picture
 from checks.lib.browser import browser_here
 from checks.lib.page_scripts import PAGE, block, in_page, set_block
-from checks.lib.repository import path, read, read_bytes, write
-from checks.lib.rows import Skipped, output, print_faults
+from checks.lib.repository import path, read, write
+from checks.lib.rows import needs, output, print_faults
 from checks.lib.toolchain import program, wasm_module
+from tests.page import browser as page_browser
+from tests.page.tables import BAD_FILES, CARDS, FORGED, SCHEDULES
 
 PICTURES = "docs/pictures"
-
-# Each schedule of examples/: its machine's dimension and stations, and the event of its picture in docs/, or None.
-SCHEDULES = {
-    "schedules/overtaken-release": (2, 4, 30),
-    "schedules/roll-back": (2, 3, 8),
-    "schedules/three-marks": (3, 3, 34),
-    "schedules/root-taken-again": (1, 3, 15),
-    "schedules/lost-claim": (2, 2, 8),
-    "schedules/lost-wakeup": (1, 4, 13),
-    "schedules/largest-machine": (12, 48, None),
-    "schedule": (2, 3, None),
-}
-
-# The cards of the page: the example, the event at which it opens, a title and what it shows.
-CARDS = (
-    ("events", 30, "The jobs of a run", "24 jobs on 16 processors: which ran where, and when."),
-    ("place", 6, "Names that take blocks", "Each take gets the first free block; one is refused."),
-    ("schedules/overtaken-release", 30, "A release that is overtaken", "Two releases want to clear one node, and one leaves it."),
-    ("schedules/roll-back", 8, "A take that is rolled back", "It finds an owner above its node, and undoes its claim."),
-    ("schedules/three-marks", 34, "Marks of two stations", "Each may clear the root only if its own mark is the last."),
-    ("schedules/root-taken-again", 15, "The root is taken again", "A claim takes the root between a mark and a clear."),
-    ("schedules/lost-claim", 8, "A claim that is lost", "Two stations find a node clear, and one claims it first."),
-    ("schedules/lost-wakeup", 13, "A wakeup that is lost", "A take is refused although no block is held."),
-    ("schedules/largest-machine", 60, "4,096 processors", "Two stations climb from leaves to the root and back."),
-)
-
-# Files that are none, and a word of the reason that each is refused for.
-BAD_FILES = {
-    "": "nothing in it",
-    "hello\n": "none of the outputs",
-    "lane,kind,op,root,items\n0,scan,add,0,1\n": "file of jobs",
-    "station,call,arg\n0,take,1\n": "input of replay",
-    "command,name,dim\ntake,a,1\n": "input of place",
-    "group,key,count,processors\n": "a report",
-    "lane,seq,kind,dim,result,rounds,messages\n": "output of run",
-    "record,line,field,text,fault,wanted\n": "output of check",
-    **{f"station,event,node,word,note\n{rows}\n": f"Line {line}, {row}: {reason}" for rows, line, row, reason in (
-        ("0,look,4,-", 2, "0,look,4,-", "it should have five fields"),
-        ("0,look,4,-,climb", 2, "0,look,4,-,climb", "no such event, or it has no such note"),
-        ("0,constructor,4,-,ok", 2, "0,constructor,4,-,ok", "no such event, or it has no such note"),
-        ("99,look,4,-,free", 2, "99,look,4,-,free", "a station is a number"),
-        ("0,look,4,-,free\n48,look,4,-,free", 3, "48,look,4,-,free", "a station is a number"),
-        ("0,look,0,-,free", 2, "0,look,0,-,free", "a node is a number"),
-        ("0,look,8192,-,free", 2, "0,look,8192,-,free", "a node is a number"),
-        ("0,look,4,<b>,free", 2, "0,look,4,<b>,free", "no such word"),
-        ("-,end,-,-,0\n0,look,4,-,free", 3, "0,look,4,-,free", "an event after the end rows"),
-        ("0,end,4,-,0", 2, "0,end,4,-,0", "no such end row"),
-    )},
-    **{f"command,name,dim,base,outcome\n{row}\n": f"Line 2, {row}: {reason}" for row, reason in (
-        ("take,a,1,1,given", "the base should be a multiple of the region"),
-        ("take,A,1,0,given", "a name has"),
-        ("take,a,13,0,given", "the dimension should be a number up to"),
-        ("take,a,1,0,freed", "no such command"),
-    )},
-}
-
-# Files that read well and that the program never writes: the row that is named, a word of the reason, and the first
-# processor that is shown in red after the last row, or None.
-FORGED = {
-    "command,name,dim,base,outcome\ntake,a,1,0,given\ntake,b,0,1,given\n": (2, "a and b both hold processor 1", 1),
-    "command,name,dim,base,outcome\ntake,a,1,0,given\ntake,a,1,2,given\n": (2, "a holds a block already", None),
-    "command,name,dim,base,outcome\ntake,a,1,0,given\nfree,a,1,2,freed\n": (2, "a does not hold this block", None),
-    "command,name,dim,base,outcome\ntake,l0s0,1,4,given\ntake,l1s3,1,4,given\n": (2, "job 0 of lane 0 and job 3 of lane 1 both hold processor 4", 4),
-    "station,event,node,word,note\n0,look,1,-,free\n1,look,1,-,free\n0,claim,1,OLR,held\n1,claim,1,OLR,held\n-,end,1,OLR,-\n-,end,-,-,1\n": (4, "its note should be lost", 0),
-    "station,event,node,word,note\n0,claim,1,OLR,held\n": (1, "station 0 can make no claim", None),
-    "station,event,node,word,note\n0,look,2,-,free\n0,claim,3,OLR,climb\n": (2, "the claim of station 0 is due at node 2", None),
-    "station,event,node,word,note\n0,look,2,-,free\n0,claim,2,OLR,climb\n0,refused,-,-,resting\n": (3, "not refused as resting", None),
-}
 
 failed = []
 
@@ -113,7 +47,8 @@ return asked.map(({ text, event, n }) => {
   for (let row = 0; row <= file.rows.length; row++) {
     show(row);
     const text = (id) => by(id).textContent;
-    shown.push(Object.fromEntries(["count", "now", "row", "words", "holders", "end", "warning"].map((id) => [id, text(id)])));
+    const names = ["count", "now", "row", "words", "holders", "end", "warning"];
+    shown.push(Object.fromEntries(names.map((id) => [id, text(id)])));
   }
   return { shown, wrong, drawing: by("scroll").innerHTML, strip: by("share").innerHTML };
 });
@@ -241,7 +176,8 @@ def check_rules(built, schedules):
     for n, stations in ((0, 1), (0, 3), (1, 4), (2, 3), (3, 8), (4, 16), (6, 30), (9, 40), (12, 48)):
         given = random_schedule(chance, n, stations, 3000)
         texts.append(output([built, "replay", "--dim", str(n), "--stations", str(stations)], given))
-    wrongs = in_page("return asked.map((text) => { const found = readFile(text); return [found.rows.length, firstWrong(found)]; });", texts)
+    wrongs = in_page("""return asked.map((text) => {
+        const found = readFile(text); return [found.rows.length, firstWrong(found)]; });""", texts)
     for text, (_, wrong) in zip(texts, wrongs):
         expect(wrong is None, f"the rules refuse a right row of {text[:60]!r}: {wrong}")
     forged = [pair for one in schedules for pair in altered(one.rows, notes, chance)]
@@ -257,7 +193,8 @@ def check_rules(built, schedules):
         reds = re.findall(r'data-overlap="(\d+)"', one["drawing"])
         expect(reds == ([] if red is None else [str(red)]), f"{text!r}: in red are {reds}")
     [cut] = in_page(SHOWN, [{"text": "station,event,node,word,note\n0,look,1,-,free\n"}])
-    expect({it["warning"] for it in cut["shown"]} == {"The file has no end rows: it may have been cut."}, "a file that was cut")
+    expect({it["warning"] for it in cut["shown"]} == {"The file has no end rows: it may have been cut."},
+           "a file that was cut")
     return sum(length for length, _ in wrongs), len(forged)
 
 
@@ -289,16 +226,21 @@ def check_contrast():
         pairs += [("ring", "paper", 4.5), ("ring", "box", 3)]
         pairs += [(line, on, 3) for line in ("line", "thin") for on in ("paper", "box")]
         for ink, on, least in pairs:
-            expect(contrast(theme[ink], theme[on]) >= least, f"{name}: {ink} on {on} has {contrast(theme[ink], theme[on]):.2f}")
+            expect(contrast(theme[ink], theme[on]) >= least,
+                   f"{name}: {ink} on {on} has {contrast(theme[ink], theme[on]):.2f}")
         for number, it in enumerate(one["stations"]):
             expect(contrast(it["ink"], it["fill"]) >= 4.5, f"{name}: the ink of {number}")
             faded = mixed(it["fill"], theme["box"], 0.35)
-            expect(contrast(theme["ink"], faded) >= 4.5, f"{name}: the ink of {number} where it is past has {contrast(theme['ink'], faded):.2f}")
+            expect(contrast(theme["ink"], faded) >= 4.5,
+                   f"{name}: the ink of {number} where it is past has {contrast(theme['ink'], faded):.2f}")
             least = min(contrast(it["line"], theme[on]) for on in ("paper", "box"))
             expect(least >= 3, f"{name}: the line of {number} has {least:.2f}")
-    styles = re.findall(r"--paper: (#\w+); --ink: (#\w+); --faint: (#\w+); --line: (#\w+); --soft: (#\w+); --ring: (#\w+);", read(PAGE))
+    names = ("paper", "ink", "faint", "line", "soft", "ring")
+    styles = re.findall(" ".join(rf"--{it}: (#\w+);" for it in names), read(PAGE))
     expect(len(styles) == 4, f"{len(styles)} sets of colours in the style")
-    for paper, ink, faint, line, soft, ring in ([it if len(it) > 4 else "#" + "".join(2 * x for x in it[1:]) for it in one] for one in styles):
+    for style in styles:
+        paper, ink, faint, line, soft, ring = (
+            it if len(it) > 4 else "#" + "".join(2 * x for x in it[1:]) for it in style)
         least = min(contrast(text, on) for text in (ink, faint, ring) for on in (paper, soft))
         expect(least >= 4.5, f"the style's texts on {paper} have {least:.2f}")
         expect(contrast(line, paper) >= 3, f"the style's lines on {paper} have {contrast(line, paper):.2f}")
@@ -313,36 +255,43 @@ def check_paths(built):
     for width, drawing in zip((1240, 328), in_page(body, text)):
         nodes = {int(it) for it in re.findall(r'data-node="(\d+)"', drawing)}
         expect(nodes == used, f"at {width} px the paths in use have {len(nodes)} nodes and not {len(used)}")
-        boxes = re.findall(r'data-node="\d+"><title>[^<]*</title><rect x="[\d.-]+" y="[\d.]+" width="([\d.]+)"', drawing)
+        boxes = re.findall(r'data-node="\d+"><title>[^<]*</title><rect x="[\d.-]+" y="[\d.]+" width="([\d.]+)"',
+                           drawing)
         expect(len(boxes) == len(used) and min(map(float, boxes)) >= 22, f"at {width} px a box is too narrow")
         wide = int(re.search(r'<svg [^>]*width="(\d+)"', drawing)[1])
         expect(wide <= 1300, f"at {width} px the drawing is {wide} px wide")
 
 
 def check_library(built, writes):
-    """Compares the library in the page with the one that the toolchain builds, and its answers with those of `place`."""
+    """Compares the library in the page with the one that the toolchain builds, and its answers with those of
+    `place`."""
     chance, commands = random.Random(2), []
     for _ in range(10000):
         name = f"n{chance.randrange(70)}"
-        commands.append(["take", name, chance.choice((0, 0, 0, 1, 1, 2, 3, 4, 7))] if chance.random() < 0.55 else ["free", name, "-"])
+        is_take = chance.random() < 0.55
+        commands.append(["take", name, chance.choice((0, 0, 0, 1, 1, 2, 3, 4, 7))] if is_take else ["free", name, "-"])
     if shutil.which("rt"):
         module = wasm_module("cubejobs_fit")
         if writes:
             lines = re.findall(".{1,100}", base64.b64encode(module).decode())
             set_block("library", "\n" + "\n".join(lines) + "\n")
-        expect(base64.b64decode(block("library")) == module, f"the library in {PAGE} is the one that rattle builds: --draw --module writes it")
+        expect(base64.b64decode(block("library")) == module,
+               f"the library in {PAGE} is the one that rattle builds: --draw --module writes it")
     else:
         print("page: a build of its library is skipped: there is no rt")
-    wanted = output([built, "place", "--dim", "9"], "\n".join(["command,name,dim", *(",".join(map(str, it)) for it in commands), ""]))
+    wanted = output([built, "place", "--dim", "9"],
+                    "\n".join(["command,name,dim", *(",".join(map(str, it)) for it in commands), ""]))
     body = """const machine = openExact(await loadLibrary(by("library").textContent), 9);
         return asked.map(([command, name, k]) => (command === "take" ? machine.take(name, k) : machine.free(name)));"""
     got = in_page(body, commands, ["--experimental-wasm-memory64"])
     for number, (one, other) in enumerate(zip(got, wanted.splitlines()[1:]), 1):
         expect(one == other, f"call {number} of the library in the page: {one} and not {other}")
-    expect({row.rpartition(",")[2] for row in got} == {"given", "freed", "nosubcube", "held", "nostation", "nothingheld"}, "each outcome")
+    outcomes = {"given", "freed", "nosubcube", "held", "nostation", "nothingheld"}
+    expect({row.rpartition(",")[2] for row in got} == outcomes, "each outcome")
     expect(len(got) == 10000, f"{len(got)} calls")
     policy = re.search(r'Content-Security-Policy" content="([^"]*)"', read(PAGE))[1]
-    wanted = "default-src 'none'; style-src 'unsafe-inline'; script-src 'unsafe-inline' 'wasm-unsafe-eval'; img-src data: blob:"
+    wanted = ("default-src 'none'; style-src 'unsafe-inline'; script-src 'unsafe-inline' 'wasm-unsafe-eval'; "
+              "img-src data: blob:")
     expect(policy == wanted, f"the page's policy: {policy}")
 
 
@@ -357,7 +306,8 @@ def check_cards(files, writes):
     expect(told.count("<button") == told.count("<svg") == len(CARDS), "a card with a picture for each example")
 
 
-WAY = "Jobs wait in a queue. A worker takes a job, and a block of processors for it. It runs the job and releases the block."
+WAY = ("Jobs wait in a queue. A worker takes a job, and a block of processors for it. It runs the job and releases the "
+       "block.")
 HELD = "station,call,arg\n1,take,4\n1,run,-\n2,take,3\n2,run,-\n"
 
 
@@ -369,7 +319,8 @@ def pictures(built, schedules):
         return way ? drawWay(colours, 720, { n, world, row: null, said: way }) : draw(colours, 1000); }));"""
     held = output([built, "replay", "--dim", "2", "--stations", "3"], HELD)
     asked = [{"text": one.text, "event": one.event, "n": one.n} for one in schedules]
-    asked += [{"text": read("examples", "events.csv"), "event": 30, "n": 4}, {"text": held, "event": len(parts(held)[0]), "n": 2, "way": WAY}]
+    asked += [{"text": read("examples", "events.csv"), "event": 30, "n": 4},
+              {"text": held, "event": len(parts(held)[0]), "n": 2, "way": WAY}]
     names = [(os.path.basename(one.name), "docs/TREE.md", "pictures") for one in schedules]
     names += [("events", "docs/GUIDE.md", "pictures"), ("way", "README.md", "docs/pictures")]
     for (name, document, folder), drawn in zip(names, in_page(body, asked)):
@@ -397,11 +348,11 @@ def check_pictures(built, schedules, draws):
 
 
 def main(words):
-    if not shutil.which("node"):
-        raise Skipped("there is no node")
+    needs("node")
     built, draws = program(words), "--draw" in words
     schedules = [Schedule(built, name) for name in SCHEDULES]
-    place, events = output([built, "place", "--dim", "3"], read("examples", "place.csv")), read("examples", "events.csv")
+    place = output([built, "place", "--dim", "3"], read("examples", "place.csv"))
+    events = read("examples", "events.csv")
     told = in_page(SHOWN, [*({"text": one.text} for one in schedules), {"text": place}, {"text": events}])
     for one, seen in zip(schedules, told):
         one.compare(seen["shown"])

@@ -1,30 +1,22 @@
 """Plays random events on the scheduler in its source form and on a plain model of it, and compares all answers.
 
 `checks/run plan [--long]` builds plan.rs over `rust/src/source`. It plays 60,000 events, and with `--long` 1,000,000:
-machines of up to 256 processors, jobs of all classes, jobs into slots by name, blocks that go out of service and return,
-jobs that end late, full tables. plan_model.py is the model.
+machines of up to 256 processors, jobs of all classes, jobs into slots by name, blocks that go out of service and
+return, jobs that end late, full tables. plan_model.py is the model.
 
 It must see slips.
 """
 import os
 import random
-import shutil
 import tempfile
 
-from checks.built.beside import WORDS, Slip, copied
-from checks.built.plan_model import DONE, NEVER, NO_JOB, Model
-from checks.lib.rows import Row, Skipped, Wrong, answer, must, run_rows
+from checks.built.beside import WORDS, copied
+from checks.lib.rows import Row, Wrong, answer, must, needs, run_rows
+from tests.faults.slips import OF_THE_PLANNER
+from tests.models.plan_model import DONE, NEVER, NO_JOB, Model
 
 EVENTS, MANY, AT_ONCE, SECONDS = 60_000, 1_000_000, 4000, 1800
-PROGRAM = "checks/built/plan.rs"
-
-SLIPS = (
-    Slip("a job without an estimate is brief", "sched_core/small.rs", "return 0;", "return NEVER;"),
-    Slip("the front of a queue stays", "wait_queue/queues.rs", "first_after(queue.front, next, slot)", "queue.front"),
-    Slip("each usable half is chosen", "sched_blocks/blocks.rs", "if !self.out.has_fit_at(k, upper) {", "if false {"),
-    Slip("a free slot is not linked back", "sched_jobs/line_table.rs", "self.set_rank(next, slot as u64 + 1);", ""),
-    Slip("all jobs come before", "sched_core/forecast.rs", "before + 1", "before + 2"),
-)
+PROGRAM = "tests/rust/plan.rs"
 
 
 class Player:
@@ -51,7 +43,8 @@ class Player:
     def some_job(self, runs):
         """Returns the number of a job, most often of one that runs or that waits."""
         numbers = [it.arrival for it in self.model.jobs.values() if (it.base is not None) == runs]
-        return self.random.choice(numbers) if numbers and self.random.random() < 0.95 else self.random.randrange(self.model.arrivals)
+        is_one = numbers and self.random.random() < 0.95
+        return self.random.choice(numbers) if is_one else self.random.randrange(self.model.arrivals)
 
     def submit(self):
         one, size = self.random, 2**self.model.dim
@@ -105,8 +98,7 @@ class Player:
 
 def built(folder, slip=None):
     """Builds the program in a folder, with a slip, and returns its path."""
-    if not shutil.which("rustc"):
-        raise Skipped("there is no rustc")
+    needs("rustc")
     copied(folder, PROGRAM, [slip] if slip else [])
     program = os.path.join(folder, "plan")
     words = ["nice", "rustc", *WORDS, '--cfg=feature="plan"', "-o", program, os.path.join(folder, PROGRAM)]
@@ -143,5 +135,5 @@ def must_see(slip):
 
 def main(words):
     rows = [Row("each answer is that of the model", compared, (MANY if "--long" in words else EVENTS,))]
-    rows += [Row(slip.name, must_see, (slip,)) for slip in SLIPS]
+    rows += [Row(slip.name, must_see, (slip,)) for slip in OF_THE_PLANNER]
     return run_rows("plan", rows)

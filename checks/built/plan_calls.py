@@ -1,5 +1,5 @@
-"""Plays the planner beside a plain model of its rules: `checks/run plan_calls FOLDER [SEED PLANNERS CALLS]`, where FOLDER
-has the archive.
+"""Plays the planner beside a plain model of its rules: `checks/run plan_calls FOLDER [SEED PLANNERS CALLS]`, where
+FOLDER has the archive.
 
 plan_calls.c makes random calls and prints each one with its answer. Here plan_model.py answers the same calls, and each
 line must agree in all its numbers. It is run as C and as C++, with the compiler's checks of addresses, also of memory
@@ -8,14 +8,13 @@ must be seen. Each request for memory is refused in turn. SEED, PLANNERS and
 CALLS are for a longer run: calls of so many planners.
 """
 import os
-import shutil
 import subprocess
 import tempfile
 from typing import NamedTuple
 
-from checks.built.plan_model import DONE, NO_JOB, Model
 from checks.lib.repository import path
-from checks.lib.rows import Row, Skipped, answer, must, run_rows
+from checks.lib.rows import Row, answer, must, needs, run_rows
+from tests.models.plan_model import DONE, NO_JOB, Model
 
 LIBRARY = "libcubejobs_plan.a"
 STRICT = ["-O1", "-g", "-Wall", "-Wextra", "-Werror", "-pedantic", f"-I{path('include')}"]
@@ -188,10 +187,9 @@ class Place(NamedTuple):
     folder: str
     room: str
 
-    def built(self, compiler, source="checks/built/plan_calls.c", flags=()):
+    def built(self, compiler, source="tests/c/plan_calls.c", flags=()):
         """Compiles a program over the library. Returns its path."""
-        if not shutil.which(compiler[0]):
-            raise Skipped(f"no {compiler[0]} here")
+        needs(compiler[0])
         out = f"{self.room}/program"
         words = [*compiler, *STRICT, path(source), "-xnone", *flags, f"{self.folder}/{LIBRARY}", "-o", out]
         status, _, said = answer(words, timeout=300)
@@ -219,7 +217,7 @@ def must_agree(place, compiler, words):
 
 def must_refuse(place):
     """Sees that each request for memory may be refused, and that a planner has as many bytes as it says."""
-    program = place.built(C, "checks/built/plan_memory.c", ["-Wl,--wrap=malloc,--wrap=free"])
+    program = place.built(C, "tests/c/plan_memory.c", ["-Wl,--wrap=malloc,--wrap=free"])
     must(not list(calls(program, [])), "it writes")
 
 

@@ -9,12 +9,11 @@ time. If no job runs longer than its estimate, no job may start later than it wa
 A list with a fault must be seen. With --long there are more and longer days.
 """
 import os
-import shutil
 import tempfile
 from typing import NamedTuple
 
 from checks.lib.repository import path
-from checks.lib.rows import Row, Skipped, answer, must, output, run_rows
+from checks.lib.rows import Row, answer, must, needs, output, run_rows
 
 LIBRARY, LIST = "libcubejobs_plan.a", "list.h"
 PATIENCE, SEEDS = 16, 4
@@ -43,8 +42,10 @@ class Days(NamedTuple):
 
 
 DAYS = tuple(Days(*setup, estimates, classes) for estimates in ("usual", "exact", "none", "overrun")
-             for setup, classes in (((4, 6000, 2.0), 8), ((7, 6000, 1.2), 8), ((8, 6000, 0.9), 1), ((10, 6000, 1.2), 2)))
-LONG_DAYS = (*(it._replace(jobs=20_000) for it in DAYS), Days(12, 10_000, 1.2, "usual", 8), Days(14, 5000, 1.5, "none", 1))
+             for setup, classes in (
+                 ((4, 6000, 2.0), 8), ((7, 6000, 1.2), 8), ((8, 6000, 0.9), 1), ((10, 6000, 1.2), 2)))
+LONG_DAYS = (*(it._replace(jobs=20_000) for it in DAYS), Days(12, 10_000, 1.2, "usual", 8),
+             Days(14, 5000, 1.5, "none", 1))
 # Days on which each fault shows.
 FAULTY = (Days(6, 4000, 1.5, "usual", 4), Days(6, 4000, 1.5, "none", 1))
 
@@ -60,10 +61,10 @@ class Place(NamedTuple):
         program = f"{self.room}/{name}"
         if os.path.exists(program):
             return program
-        if not shutil.which("gcc"):
-            raise Skipped("no gcc here")
+        needs("gcc")
         words = ["gcc", "-O2", "-std=gnu11", "-Wall", "-Wextra", "-Werror", f'-DSCHEDULER="{header}"']
-        words += [f"-I{path('include')}", f"-I{path('bench/schedulers')}", path("bench/schedulers/days.c"), "-o", program]
+        words += [f"-I{path('include')}", f"-I{path('bench/schedulers')}", path("bench/schedulers/days.c")]
+        words += ["-o", program]
         archive = [f"{self.folder}/{LIBRARY}"] if header == "library.h" else []
         status, _, said = answer([*words, *archive, "-lpthread", "-ldl", "-lm"], timeout=300)
         must(status == 0, said.decode(errors="replace"))
@@ -100,7 +101,8 @@ def must_differ(place, name, old, new):
     faulty = f"{place.room}/{name}.h"
     with open(faulty, "w") as file:
         file.write(text.replace(old, new))
-    found = (place.played(faulty, name, days, 1)[0] != place.played("library.h", "library", days, 1)[0] for days in FAULTY)
+    found = (place.played(faulty, name, days, 1)[0] != place.played("library.h", "library", days, 1)[0]
+             for days in FAULTY)
     must(any(found), "it starts the same jobs")
 
 

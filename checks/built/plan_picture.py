@@ -2,9 +2,9 @@
 
 `checks/run plan_picture [--write]` compares the pictures with what it draws, or writes them.
 """
-from checks.built.plan_model import Model
 from checks.lib.repository import path, read, write
 from checks.lib.rows import Row, must, run_rows
+from tests.models.plan_model import Model
 
 DIM, HOURS = 4, 15
 # What is submitted: the time, a name, processors, an estimate, and a word for its colour.
@@ -23,8 +23,8 @@ WIDTH, HEIGHT = LEFT + HOURS * UNIT + 16, TOP + ROW * 2**DIM + 96
 
 
 def plan():
-    """Returns where each job runs, as (name, word, base, processors, start, end), and the reservation, as (base, processors,
-    time, promise)."""
+    """Returns where each job runs, as (name, word, base, processors, start, end), and the reservation, as (base,
+    processors, time, promise)."""
     model, found, ends, kept, names = Model(DIM, len(JOBS), 16), [], [], None, {}
     for now in range(HOURS):
         for end, arrival in [it for it in ends if it[0] == now]:
@@ -60,7 +60,8 @@ def drawn(theme):
     ink, (found, kept) = INK[theme], plan()
     bottom = TOP + ROW * 2**DIM
     out = [f'<svg xmlns="http://www.w3.org/2000/svg" width="{WIDTH}" height="{HEIGHT}" viewBox="0 0 {WIDTH} {HEIGHT}" '
-           f'font-family="system-ui, \'DejaVu Sans\', sans-serif"><rect width="{WIDTH}" height="{HEIGHT}" fill="{ink["back"]}"/>']
+           f'font-family="system-ui, \'DejaVu Sans\', sans-serif">'
+           f'<rect width="{WIDTH}" height="{HEIGHT}" fill="{ink["back"]}"/>']
     out += [f'<line x1="{LEFT}" y1="{y}" x2="{WIDTH - 16}" y2="{y}" stroke="{ink["line"]}"/>' for y in (TOP, bottom)]
     for name, word, base, processors, start, end in found:
         if name:
@@ -94,7 +95,8 @@ def shows_each_case():
     found, kept = plan()
     where = {it[0]: it[2:] for it in found}
     must(where["W"] == (0, 8, 6, 11) and kept == (0, 8, 1, 6), f"W is planned as {where['W']}, reserved as {kept}")
-    must(where["C"][0] >= 8 and where["D"][0] < 8 and where["D"][3] <= kept[3], f"C and D are at {where['C']}, {where['D']}")
+    must(where["C"][0] >= 8 and where["D"][0] < 8 and where["D"][3] <= kept[3],
+         f"C and D are at {where['C']}, {where['D']}")
 
 
 def main(words):

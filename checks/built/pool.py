@@ -1,9 +1,9 @@
 """Tests the Rust package `cubejobs-pool`: its tests, documents and examples, without a warning.
 
     checks/run pool                 one run of all, and a look for mutants that no longer fit
-    checks/run pool --long          2,000 random programs; 25 runs of the tests, every other one on two processors; a run
-                                    under AddressSanitizer, which sees leaks too; and each mutant: a test sees it within a
-                                    limit of time, and passes without it
+    checks/run pool --long          2,000 random programs; 25 runs of the tests, every other one on two processors; a
+                                    run under AddressSanitizer, which sees leaks too; and each mutant: a test sees it
+                                    within a limit of time, and passes without it
     checks/run pool --mutants NAME..  these mutants alone
 
 A mutant is a file of rust/pool/mutants: the file that it changes, the tests that see it, the old text and the new one.
@@ -18,7 +18,7 @@ import subprocess
 import tempfile
 
 from checks.lib.repository import files_below, path, read
-from checks.lib.rows import Skipped, Wrong
+from checks.lib.rows import Wrong, needs
 
 PACKAGE = "rust/pool"
 # The seconds of a build, of a whole run of the tests, and the least limit of a test that may see a mutant. On a busy
@@ -228,8 +228,7 @@ def see_mutants(names):
 
 
 def main(words):
-    if not shutil.which("cargo"):
-        raise Skipped("no cargo here")
+    needs("cargo")
     if words[:1] == ["--mutants"]:
         see_mutants(words[1:])
         return

@@ -292,6 +292,7 @@ def main(words):
     for name in ("run", "report"):
         parts = Parts(built, name)
         rows += [Row(f"{name}: {title(part)}", part, (parts,)) for part in methods(Parts)]
-    rows += [Row(f"{words}: refused input", refused_input, (built, words, *refused)) for words, refused in REFUSED.items()]
+    rows += [Row(f"{words}: refused input", refused_input, (built, words, *refused))
+             for words, refused in REFUSED.items()]
     rows += [Row(f"{words}: typed input", typed_input, (built, words, *typed)) for words, typed in TYPED.items()]
     return run_rows("progress", rows)

@@ -5,15 +5,14 @@ libraries of FOLDER as those of release/: `checks/run readme FOLDER`. A line `..
 compiler or reader of tables is not there is passed over, and named.
 """
 import glob
-import hashlib
 import os
 import re
 import shutil
 import tempfile
 
-from checks.lib.repository import ROOT, path, place, read, read_bytes, write
+from checks.lib.clones import copy_to
+from checks.lib.repository import path, place, read
 from checks.lib.rows import Row, Skipped, Wrong, answer, must, run_rows
-from checks.lib.toolchain import sum_of_sources
 
 BLOCK = re.compile(r"^```\w*\n(\$ .*?)^```$", re.M | re.S)
 COMPILERS = {"cc": "cc", "c++": "c++", "(cd rust": "cargo"}
@@ -26,19 +25,6 @@ SECONDS = 120
 MOST_LINES = 130
 # How many commands are shown at least: a document that shows fewer is not read right.
 LEAST_COMMANDS = {"README.md": 4, "docs/TREE.md": 7}
-
-
-def copy_to(folder, built):
-    """Makes a clone of this repository whose release/ has what was built."""
-    made = shutil.ignore_patterns("out", "target", ".git", "__pycache__")
-    shutil.copytree(ROOT, folder, ignore=made, symlinks=True)
-    release, names = os.path.join(folder, "release", "linux-x86_64"), sorted(os.listdir(built))
-    os.makedirs(release, exist_ok=True)
-    sums = [f"# sources {sum_of_sources(folder)}"]
-    sums += [f"{hashlib.sha256(read_bytes(built, name)).hexdigest()}  {name}" for name in names]
-    for name in names:
-        shutil.copy(os.path.join(built, name), release)
-    write(os.path.join(release, "SHA256SUMS"), "\n".join(sums) + "\n")
 
 
 def commands(document):

@@ -1,11 +1,11 @@
 """Refuses memory to single calls of the libraries, and looks at what comes back.
 
-The programs `cube_bench memory`, `bitmap_trial memory` and `lane_bench memory` make calls one after the other, and after
-each they write a line: the call's name, and what came back. Each request for memory is refused in turn, then each and the two after it,
-then each and all after it. A call must say OutOfMemory exactly where one of its own requests was refused, and give back
-what it got: all items of a job, all stations of a cube, all replies that a worker has. A call that is to take no memory
-makes no request. In the end the program holds as many blocks of memory as in the beginning. `checks/run refusals FILE`
-tries FILE, which has the name of one of them.
+The programs `cube_bench memory`, `bitmap_trial memory` and `lane_bench memory` make calls one after the other, and
+after each they write a line: the call's name, and what came back. Each request for memory is refused in turn, then each
+and the two after it, then each and all after it. A call must say OutOfMemory exactly where one of its own requests was
+refused, and give back what it got: all items of a job, all stations of a cube, all replies that a worker has. A call
+that is to take no memory makes no request. In the end the program holds as many blocks of memory as in the beginning.
+`checks/run refusals FILE` tries FILE, which has the name of one of them.
 """
 import os
 import tempfile

@@ -2,14 +2,12 @@
 `cube_bench` is built. No processor may have two owners, and at the end each machine must be whole: `bench/regions
 --check`, which times nothing.
 """
-import shutil
 import subprocess
 
 from checks.lib.repository import path
-from checks.lib.rows import Skipped
+from checks.lib.rows import needs
 
 
 def main(words):
-    if shutil.which("gcc") is None:
-        raise Skipped("there is no gcc")
+    needs("gcc")
     return subprocess.run([path("bench", "regions"), "--check", *words], check=False).returncode

@@ -3,10 +3,10 @@
 `checks/run release --sums` looks at the files of release/ alone: they are of these sources, and have their sums.
 
 `checks/run release FOLDER` finds in FOLDER what was just built from nothing. Where release/ is of these sources, each
-of its files for x86-64 must be that very file, and need no symbol of a C library later than 2.34. Where another build of the
-toolchain made release/ and this one makes other bytes, the comparison is skipped. Where the sources have moved on, it
-says how to renew release/, which is no failure: the launcher passes such a release over. The libraries must have no
-instruction that an x86-64 may lack. `checks/run release --renew` proves and builds, and puts files and sums there.
+of its files for x86-64 must be that very file, and need no symbol of a C library later than 2.34. Where another build
+of the toolchain made release/ and this one makes other bytes, the comparison is skipped. Where the sources have moved
+on, it says how to renew release/, which is no failure: the launcher passes such a release over. The libraries must have
+no instruction that an x86-64 may lack. `checks/run release --renew` proves and builds, and puts files and sums there.
 
 If release/ has files for aarch64, they must be of the same sources as those for x86-64, with the sums that SHA256SUMS
 has. `checks/run aarch64` builds them anew.

@@ -1,65 +1,35 @@
 """Counts what calls do and no clause counts: every atomic access, also one that leaves no record, and the joins of a
 collective.
 
-`checks/run steps [--long]` makes 40,000 random calls of each structure in the source form (`rust/src/source`), by 1 to 8
-threads, and with `--long` 1,000,000: of the bitmap tree, of lanes of jobs, and of the tree of status words, which it
+`checks/run steps [--long]` makes 40,000 random calls of each structure in the source form (`rust/src/source`), by 1 to
+8 threads, and with `--long` 1,000,000: of the bitmap tree, of lanes of jobs, and of the tree of status words, which it
 erases itself. Each call must make at most the number of atomic accesses that the pages state (docs/REGIONS.md,
 docs/LANES.md and docs/ALGORITHM.md). The words of the sources are put under a type that counts each access of a thread.
 A collective must make exactly the joins of the rounds of its tally. Threads stop in the middle of a call of lanes, and
 others go on.
 
-It must see slips, most of them calls that make loads more: each second one of SLIPS in the gate, and with `--long` all.
+It must see slips, most of them calls that make loads more: each second one of OF_STEPS in the gate, and with `--long`
+all.
 """
 import os
 import re
-import shutil
 import tempfile
-from typing import NamedTuple
 
 from checks.lib import erase
 from checks.lib.repository import files_below, path, read, write
-from checks.lib.rows import Row, Skipped, answer, must, run_rows
+from checks.lib.rows import Row, answer, must, needs, run_rows
+from tests.faults.slips import OF_STEPS
 
 CALLS, MANY, SECONDS = 40_000, 1_000_000, 1800
-PROGRAM = "checks/built/steps.rs"
-WORDS = ["--edition", "2021", "-Coverflow-checks=on", "-O", *(f'--cfg=feature="{it}"' for it in ("lanes", "regions", "std"))]
+PROGRAM = "tests/rust/steps.rs"
+WORDS = ["--edition", "2021", "-Coverflow-checks=on", "-O",
+         *(f'--cfg=feature="{it}"' for it in ("lanes", "regions", "std"))]
 # The import of the words in the shim, and what stands there instead: each file of the source form that has one.
 IMPORT = "use core::sync::atomic::{AtomicU64, Ordering::SeqCst};"
 COUNTED = "use crate::counting::AtomicU64;\nuse core::sync::atomic::Ordering::SeqCst;"
 SHIMS = ("kit/atomic_table.rs", "kit/counted_slot.rs")
 # What has words of its own, and is not measured: first fit, which orders its writes.
 UNMEASURED = ["cubejobs_fit/open.rs", "fit_tree/writes.rs"]
-
-
-class Slip(NamedTuple):
-    """A slip: its name, a file below `rust/src/source` or of the tree, a text of it, and what is put there. Then a text of
-    the error that it must cause."""
-
-    name: str
-    file: str
-    old: str
-    new: str
-    seen: str = " stated"
-
-
-# The gate tries each second one: one of each structure, and the last.
-SLIPS = (
-    Slip("a release loads a word often", "bitmap_tree/releases.rs", "        self.release_region(&mut seat, region);\n",
-         "        for _ in 0..200 { self.peek(0); }\n        self.release_region(&mut seat, region);\n"),
-    Slip("a refused take loads a word often", "bitmap_tree/takes.rs", "        if !self.shut_spares(seat, k / 6) {\n",
-         "        for _ in 0..1_000_000 { self.peek(0); }\n        if !self.shut_spares(seat, k / 6) {\n"),
-    Slip("a submit loads its word once more", "job_lanes/submits.rs", "        let cell = self.cell(count);\n",
-         "        let cell = self.cell(count);\n        self.table.shared.peek(0);\n        self.table.shared.peek(0);\n"),
-    Slip("a wake looks twice", "wake_calls/steps.rs", "    let found = shared.load::<Notices<K, R>>(seat, word as usize);\n",
-         "    shared.peek(0);\n    let found = shared.load::<Notices<K, R>>(seat, word as usize);\n"),
-    Slip("a scan makes its rounds twice", "collectives/collective.rs", "    for round in 0..k {\n        scan_round(",
-         "    for round in (0..k).chain(0..k) {\n        scan_round("),
-    Slip("a release in the tree loads once more", "tree_steps/takes.rs", "        self.zero_held(seat, node);\n",
-         "        self.table.shared.peek(0);\n        self.zero_held(seat, node);\n"),
-    Slip("a worker that has lost a job says that it took it", "job_lanes/searching.rs",
-         "compare_exchange::<Take>(&mut sleeper.seat, head, job.seq, job.seq + 1);\n        found == job.seq",
-         "compare_exchange::<Take>(&mut sleeper.seat, head, job.seq, job.seq + 1);\n        found >= job.seq", "take_idle"),
-)
 
 
 def sources():
@@ -79,8 +49,7 @@ def sources():
 
 def ran(calls, slip=None):
     """Builds the program, with a slip, and runs it. Returns its status, its output and its errors."""
-    if not shutil.which("rustc"):
-        raise Skipped("there is no rustc")
+    needs("rustc")
     texts = sources()
     if slip:
         must(texts[slip.file].count(slip.old) == 1, f"the text {slip.old!r} is not there once")
@@ -114,6 +83,6 @@ def must_see(slip):
 def main(words):
     calls = MANY if "--long" in words else CALLS
     rows = [Row("each call makes at most its number of atomic accesses", all_within, (calls,))]
-    slips = SLIPS if "--long" in words else SLIPS[::2]
+    slips = OF_STEPS if "--long" in words else OF_STEPS[::2]
     rows += [Row(slip.name, must_see, (slip,)) for slip in slips]
     return run_rows("steps", rows)

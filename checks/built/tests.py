@@ -1,8 +1,8 @@
 """Runs the tests of `tests/`, which are in Rattle and have no proof: `checks/run tests [NAME..]`.
 
 A proof of a test shows only that the test itself is safe, and takes ten times as long as a run. So these tests run by
-`rt try --test`, over the sources as they stand. `tests/uses.txt` has the crates that each one uses. A call that breaks a
-`requires` is seen in part, so no test makes one.
+`rt try --test`, over the sources as they stand. `tests/uses.txt` has the crates that each one uses. A call that breaks
+a `requires` is seen in part, so no test makes one.
 """
 import concurrent.futures
 import os
@@ -11,7 +11,7 @@ import shutil
 import tempfile
 
 from checks.lib.repository import files_below, path, read, write
-from checks.lib.rows import Row, Skipped, answer, must, run_rows
+from checks.lib.rows import Row, answer, must, needs, run_rows
 
 FOLDER, USES, ENDING = "tests", "tests/uses.txt", ".rt.in"
 # The most seconds of one test, and of all tests of a crate.
@@ -38,8 +38,7 @@ def copy_tests(name, room):
 
 def run_tests(name, line):
     """Runs the tests of a crate in a copy of the crates, whose sources are laid out. Returns how many passed."""
-    if not shutil.which("rt"):
-        raise Skipped("there is no rt")
+    needs("rt")
     with tempfile.TemporaryDirectory(prefix="tests-") as room:
         shutil.copytree(path("crates"), f"{room}/crates", ignore=shutil.ignore_patterns("out", "proofs"))
         shutil.copy(path("HANDLES"), room)
@@ -57,9 +56,10 @@ def run_tests(name, line):
 
 def main(words):
     listed = lines()
-    names = sorted(it for it in os.listdir(path(FOLDER)) if os.path.isdir(path(FOLDER, it)))
+    names = sorted(it for it in os.listdir(path(FOLDER)) if os.path.isdir(path(FOLDER, it, "src")))
     with concurrent.futures.ThreadPoolExecutor(2) as pool:
-        begun = {it: pool.submit(run_tests, it, listed[it]) for it in names if it in listed and (not words or it in words)}
+        wanted = [it for it in names if it in listed and (not words or it in words)]
+        begun = {it: pool.submit(run_tests, it, listed[it]) for it in wanted}
         rows = [Row(f"{it} is listed", is_listed, (it, listed)) for it in names]
         rows += [Row(f"tests of {it}", ran.result) for it, ran in begun.items()]
         return run_rows("tests", rows, says_ok=True)

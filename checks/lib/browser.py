@@ -75,17 +75,20 @@ class Page:
         self.wait("location.protocol === 'file:' && document.readyState === 'complete'")
 
     def size(self, width, height=800, theme="light"):
-        self.call("Emulation.setDeviceMetricsOverride", width=width, height=height, deviceScaleFactor=1, mobile=width < 600)
+        self.call("Emulation.setDeviceMetricsOverride", width=width, height=height, deviceScaleFactor=1,
+                  mobile=width < 600)
         self.media("", theme)
 
     def media(self, media, theme):
-        self.call("Emulation.setEmulatedMedia", media=media, features=[{"name": "prefers-color-scheme", "value": theme}])
+        self.call("Emulation.setEmulatedMedia", media=media,
+                  features=[{"name": "prefers-color-scheme", "value": theme}])
 
     def middle(self, selector):
         """Scrolls an element into view, and returns its middle in the window."""
         return self.script(f"""(() => {{ const it = document.querySelector({json.dumps(selector)});
             it.scrollIntoView({{ block: "center", inline: "center" }});
-            const box = it.getBoundingClientRect(); return [box.left + box.width / 2, box.top + box.height / 2]; }})()""")
+            const box = it.getBoundingClientRect();
+            return [box.left + box.width / 2, box.top + box.height / 2]; }})()""")
 
     def mouse(self, kind, x, y):
         down = 0 if kind == "mouseReleased" else 1
@@ -115,7 +118,8 @@ class Page:
         """Drops files or texts on an element, from outside the page."""
         x, y = self.middle(selector)
         for kind in ("dragEnter", "dragOver", "drop"):
-            self.call("Input.dispatchDragEvent", type=kind, x=x, y=y, data={"items": [], "dragOperationsMask": 1, **data})
+            self.call("Input.dispatchDragEvent", type=kind, x=x, y=y,
+                      data={"items": [], "dragOperationsMask": 1, **data})
 
     def choose(self, selector, file):
         """Chooses a file for a field of the page."""
@@ -134,7 +138,8 @@ def opened(browser):
     """Yields a page in this browser, which ends with it."""
     (browser_reads, write_end), (read_end, browser_writes) = os.pipe(), os.pipe()
     with tempfile.TemporaryDirectory() as folder:
-        words = [browser, "--headless", "--no-sandbox", "--disable-gpu", "--remote-debugging-pipe", f"--user-data-dir={folder}"]
+        words = [browser, "--headless", "--no-sandbox", "--disable-gpu", "--remote-debugging-pipe",
+                 f"--user-data-dir={folder}"]
         start = ["sh", "-c", f'exec "$@" 3<&{browser_reads} 4>&{browser_writes}', "sh", *words, "about:blank"]
         ends = (browser_reads, browser_writes)
         process = subprocess.Popen(start, pass_fds=ends, stdout=subprocess.DEVNULL, stderr=subprocess.DEVNULL)

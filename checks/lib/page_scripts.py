@@ -32,7 +32,10 @@ globalThis.onresize = null;
 document.getElementById("pace").value = "2";
 document.getElementById("zoom").value = "1";
 """
-WAITS = "(async () => {{ const answer = await (async () => {{ {} }})(); process.stdout.write(JSON.stringify(answer)); }})();"
+WAITS = """(async () => {{
+  const answer = await (async () => {{ {} }})();
+  process.stdout.write(JSON.stringify(answer));
+}})();"""
 
 
 def block(name):

@@ -12,6 +12,7 @@ PARTS = ("src", "specs", "proofs")
 NO_LIBRARIES = (
     "uses", "jobs_cli", "cube_bench", "tests_kit", "tests_bitmap", "bitmap_trial", "tests_files", "tests_tools",
     "tests_lanes", "lane_bench")
+VERSION_SOURCE = "crates/release_version/src/lib.rt"
 LIMITS = ("crates/cube_shape/src/limits.rt", "crates/region_bits/src/limits.rt", "crates/job_lanes/src/sizes.rt")
 
 
@@ -61,6 +62,11 @@ def crate_files(*endings):
 def place(file):
     """Returns the path of a file as it stands below the repository."""
     return os.path.relpath(file, ROOT)
+
+
+def version_of_sources():
+    """Returns the version of the sources that are here."""
+    return re.search(r'VERSION: &str = "([^"]*)"', read(VERSION_SOURCE))[1]
 
 
 def limits():

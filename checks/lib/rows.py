@@ -2,6 +2,7 @@
 import hashlib
 import inspect
 import os
+import shutil
 import signal
 import subprocess
 import time
@@ -43,6 +44,13 @@ def methods(kind):
 def must(holds, what):
     if not holds:
         raise Wrong(what)
+
+
+def needs(*tools):
+    """Skips what follows if a tool is missing."""
+    for tool in tools:
+        if not shutil.which(tool):
+            raise Skipped(f"no {tool} here")
 
 
 def must_be_distinct(rows):

@@ -75,13 +75,13 @@ def program(words):
 
 
 def gcc(source, out, *flags):
-    words = ["gcc", "-O1", "-Wall", "-Wextra", "-Werror", *flags, path("checks", "built", source), "-o", out]
+    words = ["gcc", "-O1", "-Wall", "-Wextra", "-Werror", *flags, path("tests/c", source), "-o", out]
     subprocess.run(words, check=True)
     return out
 
 
 def shim(source, folder):
-    """Compiles a C file of `checks/built` that LD_PRELOAD puts before the C library."""
+    """Compiles a C file of `tests/c` that LD_PRELOAD puts before the C library."""
     return gcc(source, os.path.join(folder, source.replace(".c", ".so")), "-shared", "-fPIC")
 
 

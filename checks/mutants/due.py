@@ -1,10 +1,10 @@
 """Chooses the mutants that the gate tries, and notes of which crates all were refused (a part of edits).
 
-mutants/CRATE/TRIED has a sum and a day. The sum is that of the crate's sources, definitions, proofs and mutants, and of the
-definitions and public contracts of all crates below it. On that day all mutants of the crate were refused. A crate with
-another sum, or with no such file, is due. The gate tries the mutants of all crates that are due. Of the others it tries
-those with the oldest days, at most a tenth of all mutants. If more than half of all mutants are due, it tries the oldest of
-these, at most half, and says which crates stay due. Each time it tries one crate at least, whatever that has.
+mutants/CRATE/TRIED has a sum and a day. The sum is that of the crate's sources, definitions, proofs and mutants, and of
+the definitions and public contracts of all crates below it. On that day all mutants of the crate were refused. A crate
+with another sum, or with no such file, is due. The gate tries the mutants of all crates that are due. Of the others it
+tries those with the oldest days, at most a tenth of all mutants. If more than half of all mutants are due, it tries the
+oldest of these, at most half, and says which crates stay due. Each time it tries one crate at least, whatever that has.
 """
 import datetime
 import hashlib
@@ -52,8 +52,8 @@ def taken(crates, counts, most):
 
 
 def chosen(counts, is_due, days):
-    """Returns the crates whose mutants are to be tried, and a sentence on why. Of each crate it is given the number of its
-    mutants, whether it is due, and the day on which all were refused."""
+    """Returns the crates whose mutants are to be tried, and a sentence on why. Of each crate it is given the number of
+    its mutants, whether it is due, and the day on which all were refused."""
     total, by_age = sum(counts.values()), sorted(counts, key=lambda it: (days[it], it))
     due = [it for it in by_age if is_due[it]]
     of_due = sum(counts[it] for it in due)

@@ -137,7 +137,8 @@ def of_one(folder, words):
 
 def of_due():
     """Yields known choices of the mutants that are due: what it is, whether it holds, and what was chosen."""
-    counts, days = {"a": 40, "b": 5, "c": 30, "d": 25}, {"a": "2026-01-03", "b": "2026-01-01", "c": "2026-01-02", "d": ""}
+    counts = {"a": 40, "b": 5, "c": 30, "d": 25}
+    days = {"a": "2026-01-03", "b": "2026-01-01", "c": "2026-01-02", "d": ""}
     for changed, wanted in (("", "d"), ("b", "bd"), ("d", "db"), ("ab", "bad"), ("abcd", "db"), ("ac", "c")):
         crates, why = due.chosen(counts, {it: it in changed for it in counts}, days)
         yield f"mutants of {changed or 'nothing'} are due", "".join(crates) == wanted, f"{crates}: {why}"

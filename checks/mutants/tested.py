@@ -18,7 +18,8 @@ from checks.lib.rows import Row, answer, must, run_rows
 from checks.mutants.mutant import Edit, texts_of
 
 CRATE, TESTS = "bitmap_tree", "bitmap"
-COPIED = ("cube_shape", "ghost_history", "region_bits", "bitmap_occupancy", "fixed_vec", "fit_tree", "tests_bitmap", CRATE)
+COPIED = ("cube_shape", "ghost_history", "region_bits", "bitmap_occupancy", "fixed_vec", "fit_tree", "tests_bitmap",
+          CRATE)
 SECONDS = 3600
 # The most seconds that a test may take: with a wrong hint it may search for long.
 TEST_SECONDS = "120"
@@ -32,7 +33,8 @@ def is_current(edit):
     """Sees that a mutant can be applied, and that the test that it names is there."""
     must(not edit.why, edit.why)
     test = rf"^#\[test\]\n(?:#.*\n)*fn {seen_by(edit)}\("
-    must(any(re.search(test, read(file), re.M) for file in files_below(f"{FOLDER}/{TESTS}", ENDING)), "there is no such test")
+    files = files_below(f"{FOLDER}/{TESTS}", ENDING)
+    must(any(re.search(test, read(file), re.M) for file in files), "there is no such test")
 
 
 def copy_crates(room):

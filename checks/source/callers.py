@@ -16,7 +16,7 @@ import textwrap
 from checks.lib.rattle_source import all_items, is_of_trait, items_in, owner_of
 from checks.lib.repository import NO_LIBRARIES, crate_names, path, read, write
 from checks.lib.rows import Wrong, blind, must, print_faults
-from checks.source.surface import exports, sources_of
+from checks.source.definitions import exports, sources_of
 
 # Which callers and proofs the CALLING.md of a crate quotes, in their order: a file, or after a # the item of it whose
 # head begins with these words.

@@ -1,9 +1,9 @@
 """Sees that each sentence that promises something has what carries it.
 
 It reads README.md, docs/C.md, docs/RUST.md, docs/LANES.md, docs/REGIONS.md, docs/SCHEDULER.md and the headers of
-`include`, and finds each sentence that says "proved", "never", "each" or "at most". The file `checks/source/claims` lists
-them by page. An entry is the beginning of a sentence, with code and links as they are written, and then, on a line that is
-set in, what carries it, parted by semicolons:
+`include`, and finds each sentence that says "proved", "never", "each" or "at most". The file `tests/claims.txt` lists
+them by page. An entry is the beginning of a sentence, with code and links as they are written, and then, on a line that
+is set in, what carries it, parted by semicolons:
 
     CRATE: FUNCTION CLAUSE    a clause of a function, which must have it
     CRATE: NAME               a definition, or a type, of a crate
@@ -12,8 +12,8 @@ set in, what carries it, parted by semicolons:
     a duty                    what the caller must keep
     a description             what the thing is or how it works, and no promise
 
-A sentence without an entry, an entry without a sentence, and a carrier that is not there fail. `checks/run claims --list`
-prints the sentences without an entry, each with its page.
+A sentence without an entry, an entry without a sentence, and a carrier that is not there fail. `checks/run claims
+--list` prints the sentences without an entry, each with its page.
 """
 import glob
 import os
@@ -23,7 +23,7 @@ from checks.lib.repository import files_below, path, place, read
 from checks.lib.rows import blind, print_faults
 from checks.source.prose import END, comments_of, outside_code, parts
 
-ENTRIES = "checks/source/claims"
+ENTRIES = "tests/claims.txt"
 PAGES = ("README.md", "docs/C.md", "docs/RUST.md", "docs/LANES.md", "docs/REGIONS.md", "docs/SCHEDULER.md")
 PROMISES = re.compile(r"\b(?:proved|proves|never|each|at most)\b", re.I)
 PLAIN = ("a duty", "a description")
@@ -119,7 +119,8 @@ def faults_in(page, text, listed):
 
 SAMPLE = "It never waits. Nothing here. A `never` is code.\n\n- Each call\n  is proved.\n"
 LISTED = {"Each call": ["cube_shape: regions_apart exact_no", "tested by nobody_at_all"], "Some": [], "It": ["a duty"]}
-WANTED = ("regions_apart has no clause exact_no", "'tested by nobody_at_all': there is none", "begins 'Some'", "carries 'Some'")
+WANTED = ("regions_apart has no clause exact_no", "'tested by nobody_at_all': there is none", "begins 'Some'",
+          "carries 'Some'")
 
 
 def main(words):
@@ -130,5 +131,6 @@ def main(words):
     if "--list" in words:
         faults = [it for it in faults if it.partition(": ")[2].startswith("no entry")]
     sample = [*faults_in("README.md", SAMPLE, LISTED)]
-    faults += blind("claims", [(sample, WANTED), ([*faults_in("README.md", SAMPLE, {})], ("It never waits", "Each call is"))])
+    faults += blind("claims",
+                    [(sample, WANTED), ([*faults_in("README.md", SAMPLE, {})], ("It never waits", "Each call is"))])
     return print_faults(faults)

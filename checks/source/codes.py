@@ -1,8 +1,8 @@
 """Compares the codes of the libraries for C, which share one row of numbers.
 
-A name has one number in all headers, and a number one name, except those of OTHERS. include/cubejobs_codes.h has a text for each number, each a
-different one, and for no other. A crate has the codes of its header that its library returns. The Rust package and the
-page have the numbers of the headers. `checks/run codes` prints what differs.
+A name has one number in all headers, and a number one name, except those of OTHERS. include/cubejobs_codes.h has a text
+for each number, each a different one, and for no other. A crate has the codes of its header that its library returns.
+The Rust package and the page have the numbers of the headers. `checks/run codes` prints what differs.
 """
 import re
 from typing import NamedTuple, Tuple
@@ -12,7 +12,8 @@ from checks.lib.rows import must, print_faults
 
 
 class Library(NamedTuple):
-    """A library: its header, the prefix and the enum of its codes, its crate, and the codes that no call of it returns."""
+    """A library: its header, the prefix and the enum of its codes, its crate, and the codes that no call of it
+    returns."""
 
     header: str
     prefix: str
@@ -31,8 +32,8 @@ LIBRARIES = (
     Library("cubejobs_sched.h", "CUBEJOBS_SCHED_", "cubejobs_sched_code", "cubejobs_sched", ("TIMED_OUT",)),
 )
 TEXTS = "cubejobs_codes.h"
-# Codes of the planner and of the scheduler with a name or a number of the lanes: they are full themselves, and not a lane;
-# and where the lanes say that a queue is empty, they say of any call that there is no job.
+# Codes of the planner and of the scheduler with a name or a number of the lanes: they are full themselves, and not a
+# lane; and where the lanes say that a queue is empty, they say of any call that there is no job.
 OTHERS = {it: ("FULL", "NO_JOB") for it in ("cubejobs_plan.h", "cubejobs_sched.h")}
 # Where the Rust package has numbers of codes, and the header that they are of.
 IN_RUST = {"fit_ffi.rs": "cubejobs_fit.h", "regions_ffi.rs": "cubejobs_regions.h", "lanes_ffi.rs": "cubejobs_lanes.h",

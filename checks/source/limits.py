@@ -1,8 +1,8 @@
 """Fails where a source, a definition or a proof writes the number of a limit and not its name.
 
-It reads the limits (src/limits.rt of cube_shape and region_bits, src/sizes.rt of job_lanes), and looks in all crates for
-each literal that is such a number or a power of interest, or one less or more, in whatever form: `1024`, `0x400`, `1 <<
-10`. A limit whose name an earlier file has too is called by its crate: `job_lanes::MAX_LANES`. Comments do not
+It reads the limits (src/limits.rt of cube_shape and region_bits, src/sizes.rt of job_lanes), and looks in all crates
+for each literal that is such a number or a power of interest, or one less or more, in whatever form: `1024`, `0x400`,
+`1 << 10`. A limit whose name an earlier file has too is called by its crate: `job_lanes::MAX_LANES`. Comments do not
 count, nor do tests, whose rows are worked by hand. OTHERS says what else such a number may be; an entry that no literal
 needs fails too, and so does a limit without a sentence. C, Rust, the page and documents cannot name a limit: WRITTEN
 says where they write it out, and each of these numbers must be that of its limit. So does OF_OTHERS of limits of other
@@ -58,7 +58,8 @@ WRITTEN = (
     ("mutants/cube_core/unmark_of_ones_own_mark.edit", r"\(station % (\d+)\)", "MAX_STATIONS"),
     ("README.md", r"has machines of dimension 0 to (\d+)", "MAX_DIM"),
     ("README.md", r"any number of blocks; 2\^(\d+) processors", "MAX_BITMAP_DIM"),
-    ("README.md", r"lowest free block, in memory of yours \| one call at a time; 2\^(\d+) processors", "MAX_BITMAP_DIM"),
+    ("README.md", r"lowest free block, in memory of yours \| one call at a time; 2\^(\d+) processors",
+     "MAX_BITMAP_DIM"),
     ("README.md", r"A\s+run has (\d+) lanes", "MAX_LANES"),
     ("README.md", r"lanes, 1 to (\d+)\s+dispatchers", "MAX_DISPATCHERS"),
     ("README.md", r"a queue\s+of 1 to ([\d,]+) jobs", "MAX_CAPACITY"),
@@ -79,9 +80,11 @@ WRITTEN = (
 OF_OTHERS = (
     ("include/cubejobs_plan.h", r"#define CUBEJOBS_PLAN_MAX_JOBS (\d+)", "crates/wait_queue/src/nodes.rt", "MAX_SLOTS"),
     ("include/cubejobs_plan.h", r"#define CUBEJOBS_PLAN_CLASSES (\d+)", "crates/sched_jobs/src/lines.rt", "CLASSES"),
-    ("include/cubejobs_sched.h", r"#define CUBEJOBS_SCHED_MAX_JOBS (\d+)", "crates/wait_queue/src/nodes.rt", "MAX_SLOTS"),
+    ("include/cubejobs_sched.h", r"#define CUBEJOBS_SCHED_MAX_JOBS (\d+)", "crates/wait_queue/src/nodes.rt",
+     "MAX_SLOTS"),
     ("include/cubejobs_sched.h", r"#define CUBEJOBS_SCHED_CLASSES (\d+)", "crates/sched_jobs/src/lines.rt", "CLASSES"),
-    ("include/cubejobs_sched.h", r"#define CUBEJOBS_SCHED_MAX_WORKERS (\d+)", "crates/sched_pool/src/workers.rt", "MAX_WORKERS"),
+    ("include/cubejobs_sched.h", r"#define CUBEJOBS_SCHED_MAX_WORKERS (\d+)", "crates/sched_pool/src/workers.rt",
+     "MAX_WORKERS"),
     ("rust/src/sched_ffi.rs", r"const MAX_JOBS: u32 = ([\d_]+);", "crates/wait_queue/src/nodes.rt", "MAX_SLOTS"),
     ("rust/src/sched_ffi.rs", r"const CLASSES: u8 = (\d+);", "crates/sched_jobs/src/lines.rt", "CLASSES"),
     ("rust/src/sched_ffi.rs", r"const MAX_WORKERS: u32 = ([\d_]+);", "crates/sched_pool/src/workers.rt", "MAX_WORKERS"),

@@ -23,13 +23,15 @@ COUNTS = (
 # pattern of an entry in the lines up to the next empty one.
 TABLES = (
     ("docs/GUIDE.md", r"`cubejobs` has (\w+) commands", "| Command | It |", r"^\| \["),
-    ("docs/ARCHITECTURE.md", r"a quick take passes through (\w+) functions", "| Crate | Functions, each", r"(?<=, )`[\w:]+`|`[\w:]+`(?=,)"),
+    ("docs/ARCHITECTURE.md", r"a quick take passes through (\w+) functions", "| Crate | Functions, each",
+     r"(?<=, )`[\w:]+`|`[\w:]+`(?=,)"),
     ("docs/ARCHITECTURE.md", r"functions of (\w+)\s+crates", "| Crate | Functions, each", r"^\| `\w+` \|"),
 )
 NUMBERS = "zero one two three four five six seven eight nine ten eleven twelve".split()
 # Words of the toolchain, of the system and of other libraries that nothing here uses, and parts of other languages.
 EXCUSED = {
-    "rt": "tidy untested holes RT_JOBS", "Linux": "perf ulimit O_NONBLOCK madvise nice pthread_cleanup_push", "MPI": "MPI_Exscan",
+    "rt": "tidy untested holes RT_JOBS", "Linux": "perf ulimit O_NONBLOCK madvise nice pthread_cleanup_push",
+    "MPI": "MPI_Exscan",
 }
 # Folders whose files are made or are no text, and those whose files only give their names: a mutant is wrong code.
 NO_FOLDERS, ONLY_NAMES = (".git", "out", "target", "release", "__pycache__"), ("mutants", "pictures")
@@ -118,7 +120,8 @@ def faults_of_counts():
         count = len(re.findall(entry, table, re.M))
         found = re.search(said, text)
         if not found or found[1] not in (str(count), (NUMBERS + [""] * count)[count]):
-            yield f"{file}: the table under '{head}' has {count} entries, and it says {found[1] if found else 'nothing'}"
+            told = found[1] if found else "nothing"
+            yield f"{file}: the table under '{head}' has {count} entries, and it says {told}"
 
 
 def main(words):

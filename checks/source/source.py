@@ -16,7 +16,8 @@ import shutil
 
 from checks.lib import erase
 from checks.lib.repository import files_below, path, place, read, write
-from checks.lib.rows import Row, Skipped, Wrong, must, run_rows
+from checks.lib.rows import Row, Wrong, must, needs, run_rows
+from checks.lib.token_trees import Unknown, parsed, shown
 from checks.lib.toolchain import kit
 
 HOME, SHIM, EXPORTS, PAGE = "rust/src/source", "rust/src/source/kit", "rust/c/src", "docs/SOURCE.md"
@@ -111,7 +112,8 @@ def left_out(words, at):
         return past_ghost(words, at + 1)
     if word == "#":
         inside = at + 1 + (words[at + 1] == "!")
-        if words[inside + 1] in ("error", "tactic", "unsafe") or words[inside + 1 : inside + 5] == ["derive", "(", "Drop", ")"]:
+        is_drop = words[inside + 1 : inside + 5] == ["derive", "(", "Drop", ")"]
+        if words[inside + 1] in ("error", "tactic", "unsafe") or is_drop:
             return past(words, inside)
         if words[inside + 1 : inside + 4] == ["cfg", "(", "test"]:
             return words.index(";", inside) + 1
@@ -196,23 +198,23 @@ def audited():
 
 def refuses(text):
     """Sees that the eraser refuses a text."""
-    eraser, ends = erase.Eraser("crate", set()), erase.Ends()
+    eraser, ends = erase.eraser_of("crate", set()), erase.Ends()
     eraser.file = "crate/file"
     try:
         must(not erase.DIFFERING.search(text), "it is refused")
-        ends.add("file", erase.shown(eraser.erased(erase.parsed(text))))
+        ends.add("file", shown(eraser.erased(parsed(text))))
         ends.settle()
         must(all(ends.only_ends(it.owner, it.body) for it in eraser.drops), "it is refused")
-    except (erase.Unknown, Wrong):
+    except (Unknown, Wrong):
         return
     raise Wrong("the eraser takes it")
 
 
 def keeps(text):
     """Sees that the eraser leaves a text as it is."""
-    eraser = erase.Eraser("crate", set())
+    eraser = erase.eraser_of("crate", set())
     eraser.file = "crate/file"
-    erased = erase.shown(eraser.erased(erase.parsed(text)))
+    erased = shown(eraser.erased(parsed(text)))
     must(erased.split() == text.split(), f"it becomes {erased!r}")
 
 
@@ -228,8 +230,7 @@ def shim_is_small():
 
 def shim_is_read():
     """Sees that no file of the toolchain for which the shim stands has changed."""
-    if not shutil.which("rt"):
-        raise Skipped("there is no rt")
+    needs("rt")
     now = {}
     for name in READ:
         with open(os.path.join(kit().KIT, "rattle", name), "rb") as file:

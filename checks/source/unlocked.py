@@ -1,5 +1,5 @@
-"""Finds locks in the sources of the queue, of both trees, of the libraries of regions and of the scheduler for threads, and
-of job lanes with their calls of sleep and wake: `line_ruled`, `floor_tree`, `floor_bitmap`, `cubejobs_regions`,
+"""Finds locks in the sources of the queue, of both trees, of the libraries of regions and of the scheduler for threads,
+and of job lanes with their calls of sleep and wake: `line_ruled`, `floor_tree`, `floor_bitmap`, `cubejobs_regions`,
 `cubejobs_sched`, `cubejobs_lanes`, `wake_calls` and all below.
 
 No contract says this of a call that may wait: a lock around it changes neither its result nor what it records. It finds
@@ -21,9 +21,11 @@ from checks.lib.crates import libraries_of, uses_of
 from checks.lib.repository import ROOT, files_below, read
 from checks.lib.rows import print_faults
 
-TOPS = ("line_ruled", "floor_bitmap", "floor_tree", "cubejobs_regions", "cubejobs_sched", "cubejobs_lanes", "wake_calls")
+TOPS = ("line_ruled", "floor_bitmap", "floor_tree", "cubejobs_regions", "cubejobs_sched", "cubejobs_lanes",
+        "wake_calls")
 ALLOWED = {
-    "core", "std", "std_alloc", "std_heap", "atomic_table", "bitflags", "counted_slot", "crossbeam_queue", "crossbeam_utils",
+    "core", "std", "std_alloc", "std_heap", "atomic_table", "bitflags", "counted_slot", "crossbeam_queue",
+    "crossbeam_utils",
     "thiserror"}
 LOCKS = re.compile(
     r"\b(?:\w*Mutex\w*|\w+Lock|\w+Lock(?:Read|Write)Guard|Condvar|Barrier|OnceCell|mpsc|(?:try_)?lock|locked_\w+)\b"

@@ -10,11 +10,11 @@ released version is of exactly these sources: after a change of one the version 
 """
 import re
 
-from checks.lib.repository import path, read, write
+from checks.lib.repository import VERSION_SOURCE, read, version_of_sources, write
 from checks.lib.rows import Wrong, blind, must, print_faults
 from checks.lib.toolchain import sum_of_sources
 
-SOURCE, VERSIONS, CHANGELOG = "crates/release_version/src/lib.rt", "release/VERSIONS", "CHANGELOG.md"
+SOURCE, VERSIONS, CHANGELOG = VERSION_SOURCE, "release/VERSIONS", "CHANGELOG.md"
 VERSION = r"(\d+)\.(\d+)\.(\d+)(-dev)?"
 TEXT, NUMBER = r'(VERSION: &str = ")([^"]*)(")', r"(VERSION_NUMBER: u32 = )(\d+)(;)"
 ERASED = "rust/src/source/release_version/mod.rs"
@@ -44,7 +44,8 @@ def number_of(version):
 
 
 def order(version):
-    """Returns a version as numbers, of which a larger one is later. `-dev` comes before the release that it leads to."""
+    """Returns a version as numbers, of which a larger one is later. `-dev` comes before the release that it leads
+    to."""
     *parts, development = re.fullmatch(VERSION, version).groups()
     return [*map(int, parts), 0 if development else 1]
 
@@ -85,11 +86,6 @@ def texts_of_today():
     return {name: read(name) for name in (VERSIONS, CHANGELOG, *(place[0] for place in PLACES))}
 
 
-def of_sources():
-    """Returns the version of the sources that stand here."""
-    return re.search(TEXT, read(SOURCE))[2]
-
-
 def samples(version, texts, total):
     """Yields known bad samples, each with what must be found in it."""
     other = {**texts, "include/cubejobs_rounds.h": texts["include/cubejobs_rounds.h"].replace(version, "0.0.9")}
@@ -117,7 +113,7 @@ def release(version):
 
 def main(words):
     texts, total = texts_of_today(), sum_of_sources()
-    version = of_sources()
+    version = version_of_sources()
     if words[:1] == ["--set"] and len(words) == 2:
         return set_to(words[1])
     if words == ["--released"]:

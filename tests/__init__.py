@@ -1,0 +1,1 @@
+"""The tests that checks run: programs, tables of rows, and models."""
