@@ -1,4 +1,4 @@
-/* The lanes of crates/job_lanes by hand: the same words and the same atomic steps. Nothing here is proved.
+/* The lanes of crates/lanes by hand: the same words and the same atomic steps. Nothing here is proved.
  *
  * With HANDLES a producer and a worker have a handle of 16 bytes as those of the library: a tag, and a pointer to a
  * record on the heap, whose kind each call checks. Without, a call has the pointer to the record itself. */

@@ -1,4 +1,4 @@
-//! Bounded lanes in one slice of atomic words: the steps of the crate `job_lanes`, in plain Rust.
+//! Bounded lanes in one slice of atomic words: the steps of the crate `lanes`, in plain Rust.
 
 use std::sync::atomic::{AtomicU64, Ordering::SeqCst};
 

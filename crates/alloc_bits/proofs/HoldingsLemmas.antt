@@ -5,11 +5,11 @@ use Rattle.std.proofs.lemmas.Bool.{cases_lt}
 use Rattle.std.proofs.Math.Seq.{take-append_seam}
 use Rattle.std.proofs.lemmas.List.{get_or-replicate, get_or_past, length-replicate}
 use Rattle.cube_shape.specs.declared.limits.TheConstants.{MAX_STATIONS}
-use Rattle.region_bits.specs.declared.limits.TheConstants.{MAX_BITS_DIM}
+use Rattle.alloc_bits.specs.declared.limits.TheConstants.{MAX_BITS_DIM}
 use Rattle.cube_shape.specs.declared.region.Region.{Region}
 use Rattle.cube_shape.specs.Machine.{Holdings}
-use Rattle.region_bits.specs.Represents.{Represents, bit_of}
-use Rattle.region_bits.proofs.RepresentsLemmas.{Represents-new}
+use Rattle.alloc_bits.specs.Represents.{Represents, bit_of}
+use Rattle.alloc_bits.proofs.RepresentsLemmas.{Represents-new}
 use Rattle.alloc_bits.specs.Allocation.{Allocation, held_in}
 use Rattle.alloc_bits.specs.Inner.{slot_of, pairs_of, IsConsistent}
 use Rattle.alloc_bits.proofs.SlotLemmas.{get-pairs_of}

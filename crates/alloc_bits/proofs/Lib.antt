@@ -1,2 +1,5 @@
 mod SlotLemmas
 mod HoldingsLemmas
+mod BitLemmas
+pub mod ScanLemmas
+pub mod RepresentsLemmas

@@ -7,7 +7,7 @@ use Rattle.std.specs.FinMap.{FinMap, code, from_entries}
 use Rattle.cube_shape.specs.declared.limits.TheConstants.{MAX_STATIONS}
 use Rattle.cube_shape.specs.declared.region.Region.{Region}
 use Rattle.cube_shape.specs.Machine.{Holdings}
-use Rattle.region_bits.specs.Represents.{Represents}
+use Rattle.alloc_bits.specs.Represents.{Represents}
 use Rattle.alloc_bits.specs.Allocation.{Allocation}
 
 -- What a station holds, by its slot. A station past the slots holds nothing.

@@ -5,9 +5,9 @@ ghost use Rattle.cube_shape.specs.Region.{Covers, block};
 ghost use Rattle.cube_shape.specs.Machine.{Gives, HasNoFit, IsFirstFit, IsLawful, TakesBack};
 ghost use Rattle.alloc_bits.specs.Allocation.{held_in};
 
+use crate::regions::{clear_region, first_fit, set_region};
 use crate::slots;
 use cube_shape::{MAX_DIM, MAX_STATIONS, Region};
-use region_bits::{clear_region, first_fit, set_region};
 use std::alloc::{AllocError, Global};
 use std::marker::Model;
 use thiserror::Error;

@@ -5,8 +5,8 @@ ghost use Rattle.cube_shape.specs.declared.region.Region.{Region as HeldRegion};
 ghost use Rattle.cube_shape.specs.Region.{Covers};
 ghost use Rattle.alloc_bits.specs.Inner.{slot_of};
 
+use crate::limits::MAX_BITS_DIM;
 use cube_shape::Region;
-use region_bits::MAX_BITS_DIM;
 
 /// Returns the block of a station, if it holds one.
 pub(crate) fn region_of(slots: &[Option<Region>], station: u32) -> Option<Region>

@@ -4,7 +4,7 @@ use Rattle.std.proofs.Math.Pow.{pow_mono}
 use Rattle.std.proofs.lemmas.Bool.{cases_lt}
 use Rattle.std.proofs.lemmas.Nat.{pow_pos, div-add-mod', mod_below, mod_low, shr_high, mod-pow-add}
 use Rattle.cube_shape.specs.Region.{block}
-use Rattle.region_bits.specs.Count.{IsCount}
+use Rattle.alloc_bits.specs.Count.{IsCount}
 use Rattle.bitmap_occupancy.proofs.CountLemmas.{counts_more, counts_same}
 use Rattle.bitmap_occupancy.specs.InnerRuns.{IsRun}
 use Rattle.bitmap_occupancy.specs.Occupancy.{IsFreeAt}

@@ -4,7 +4,7 @@ use Rattle.std.proofs.lemmas.Bool.{cases_lt}
 use Rattle.std.proofs.lemmas.Nat.{pow_pos, shl-shr}
 use Rattle.bitmap_tree.proofs.LayoutLemmas.{split_at}
 use Rattle.cube_shape.specs.Region.{block}
-use Rattle.region_bits.specs.Count.{IsCount}
+use Rattle.alloc_bits.specs.Count.{IsCount}
 use Rattle.bitmap_occupancy.proofs.RunLemmas.{ends_same}
 use Rattle.bitmap_occupancy.specs.InnerCount.{IsCountedTo, IsRunning}
 use Rattle.bitmap_occupancy.specs.InnerRuns.{AreCounted, IsRun}

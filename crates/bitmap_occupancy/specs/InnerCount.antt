@@ -1,6 +1,6 @@
 -- What a counter has counted.
 use Rattle.std.specs.Prelude.{◌≡◌, ℕ, ◌<◌, ◌≤◌, List, slice_index}
-use Rattle.region_bits.specs.Count.{IsCount}
+use Rattle.alloc_bits.specs.Count.{IsCount}
 use Rattle.bitmap_occupancy.specs.Occupancy.{IsHeldAt}
 use Rattle.bitmap_occupancy.specs.InnerRuns.{AreCounted, IsRun}
 use Rattle.bitmap_occupancy.specs.declared.counter.Counter.{Counter}

@@ -1,7 +1,7 @@
 -- A run of processors of which none is held, and the free blocks before its end.
 use Rattle.std.specs.Prelude.{ℕ, ◌-◌, ◌/◌, ◌^◌, ◌<◌, ◌≤◌, List, slice_index}
 use Rattle.cube_shape.specs.Region.{block}
-use Rattle.region_bits.specs.Count.{IsCount}
+use Rattle.alloc_bits.specs.Count.{IsCount}
 use Rattle.bitmap_occupancy.specs.Occupancy.{IsFreeAt, IsHeldAt}
 
 -- No processor from `from` on is held, below `past`, and the one before `from` is.

@@ -1,7 +1,7 @@
 -- What an occupancy counts.
 use Rattle.std.specs.Prelude.{◌≡◌, ℕ, ◌-◌, ◌^◌, ◌<◌, ◌≤◌, List, Option, Some, None, slice_index}
 use Rattle.cube_shape.specs.Region.{block}
-use Rattle.region_bits.specs.Count.{IsCount}
+use Rattle.alloc_bits.specs.Count.{IsCount}
 use Rattle.bitmap_occupancy.specs.Occupancy.{IsFreeAt, IsHeldAt}
 use Rattle.bitmap_occupancy.specs.declared.summary.Occupancy.{Occupancy}
 

@@ -4,7 +4,7 @@ use Rattle.std.specs.Io.KnownBytes.{Appends}
 use Rattle.job_types.specs.Job.{JobData}
 use Rattle.job_events.specs.Events.{AreEvents, event_fields}
 use Rattle.job_events.specs.declared.event.JobEvent.{JobEvent}
-use Rattle.shop_threads.specs.declared.running.RunEnd.{RunEnd}
+use Rattle.dispatcher_threads.specs.declared.running.RunEnd.{RunEnd}
 use Rattle.jobs_csv.specs.declared.fault.Fault.{Fault}
 use Rattle.jobs_csv.specs.declared.fault.FaultKind.TheVariants as what
 use Rattle.jobs_csv.specs.Fault.{attribute, has_failed, is_refusal}

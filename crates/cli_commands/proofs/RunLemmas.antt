@@ -18,16 +18,16 @@ use Rattle.dispatcher.specs.declared.feeding.FeedStop.{FeedStop}
 use Rattle.dispatcher.specs.declared.feeding.FeedStop.TheVariants.{Done, Closed, LaneSpent, Turns}
 use Rattle.dispatcher.specs.declared.finishing.Finished.{Finished}
 use Rattle.dispatcher.specs.declared.opening.ShopSizes.{ShopSizes}
-use Rattle.shop_threads.specs.Batch.{IsUnfinishedBatch}
-use Rattle.shop_threads.specs.Done.{is_spent, reason_of}
-use Rattle.shop_threads.specs.Run.{by_worker_of, IsLaneEnd, IsRun, IsStopOf}
-use Rattle.shop_threads.specs.RunError.{MatchRunError}
-use Rattle.shop_threads.specs.declared.answering.StopReason.{StopReason}
-use Rattle.shop_threads.specs.declared.answering.StopReason.TheVariants as why
-use Rattle.shop_threads.specs.declared.answering.RunError.{RunError}
-use Rattle.shop_threads.specs.declared.answering.RunError.TheVariants as stopped
-use Rattle.shop_threads.specs.declared.running.LaneEnd.{LaneEnd}
-use Rattle.shop_threads.specs.declared.running.RunEnd.{RunEnd}
+use Rattle.dispatcher_threads.specs.Batch.{IsUnfinishedBatch}
+use Rattle.dispatcher_threads.specs.Done.{is_spent, reason_of}
+use Rattle.dispatcher_threads.specs.Run.{by_worker_of, IsLaneEnd, IsRun, IsStopOf}
+use Rattle.dispatcher_threads.specs.RunError.{MatchRunError}
+use Rattle.dispatcher_threads.specs.declared.answering.StopReason.{StopReason}
+use Rattle.dispatcher_threads.specs.declared.answering.StopReason.TheVariants as why
+use Rattle.dispatcher_threads.specs.declared.answering.RunError.{RunError}
+use Rattle.dispatcher_threads.specs.declared.answering.RunError.TheVariants as stopped
+use Rattle.dispatcher_threads.specs.declared.running.LaneEnd.{LaneEnd}
+use Rattle.dispatcher_threads.specs.declared.running.RunEnd.{RunEnd}
 use Rattle.jobs_csv.specs.declared.fault.Fault.{Fault}
 use Rattle.jobs_csv.specs.declared.fault.FaultKind.TheVariants as what
 use Rattle.jobs_csv.specs.Fault.{attribute, has_failed, is_refusal}

@@ -7,7 +7,7 @@ use Rattle.job_types.specs.Reply.{ReplyData}
 use Rattle.dispatcher.specs.Reply.{answered, IsRight}
 use Rattle.job_events.specs.Events.{AreEvents, event_fields}
 use Rattle.job_events.specs.declared.event.JobEvent.{JobEvent}
-use Rattle.shop_threads.specs.declared.running.RunEnd.{RunEnd}
+use Rattle.dispatcher_threads.specs.declared.running.RunEnd.{RunEnd}
 use Rattle.jobs_csv.specs.declared.fault.Fault.{Fault}
 use Rattle.jobs_csv.specs.Jobs.{parse_jobs}
 use Rattle.jobs_csv.specs.PlaceRows.{place_columns}

@@ -6,10 +6,10 @@ use Rattle.job_queue.specs.declared.job_line.JobLine.{Ghosts as LineWords}
 use Rattle.floors.specs.Floor.{IsWhollyFree}
 use Rattle.floors.specs.declared.floor.Floor.{Ghosts as FloorWords}
 use Rattle.dispatcher.specs.declared.opening.ShopSizes.{ShopSizes}
-use Rattle.shop_threads.specs.Done.{IsDone}
-use Rattle.shop_threads.specs.Members.{RanIn}
-use Rattle.shop_threads.specs.Run.{IsRun}
-use Rattle.shop_threads.specs.declared.running.RunEnd.{RunEnd}
+use Rattle.dispatcher_threads.specs.Done.{IsDone}
+use Rattle.dispatcher_threads.specs.Members.{RanIn}
+use Rattle.dispatcher_threads.specs.Run.{IsRun}
+use Rattle.dispatcher_threads.specs.declared.running.RunEnd.{RunEnd}
 use Rattle.jobs_csv.specs.Fault.{is_refusal}
 use Rattle.jobs_csv.specs.declared.fault.Fault.{Fault}
 use Rattle.cli_commands.specs.OpenLanes.{AreOpenLanes}

@@ -13,8 +13,8 @@ pub mod Program
 pub mod Inner
 pub use Rattle.floors.specs.Floor.{IsWhollyFree}
 pub use Rattle.job_types.specs.Job.{JobData}
-pub use Rattle.shop_threads.specs.Done.{IsDone}
-pub use Rattle.shop_threads.specs.Members.{RanIn}
+pub use Rattle.dispatcher_threads.specs.Done.{IsDone}
+pub use Rattle.dispatcher_threads.specs.Members.{RanIn}
 pub use Rattle.jobs_csv.specs.Fault.{IsInputFault, attribute, fault_text}
 pub use Rattle.jobs_csv.specs.Jobs.{parse_jobs}
 pub use Rattle.jobs_csv.specs.Replies.{reply_columns, reply_fields}

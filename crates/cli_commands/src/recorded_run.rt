@@ -20,12 +20,12 @@ use crate::progress::{RecordProgress, ReplyProgress, begin_progress, counts_of, 
 use crate::shop::{AnswerError, answer_lanes};
 use cli_args::ShopOptions;
 use dispatcher::{Runner, ShopSizes};
+use dispatcher_threads::{RunEnd, SharedFloor, SharedLine};
 use floors::Floor;
 use job_events::{EventNumbers, JobEvent, Numbered, events_of, room_for};
 use job_queue::JobLine;
 use job_types::Job;
 use jobs_csv::{Device, Fault, FaultKind};
-use shop_threads::{RunEnd, SharedFloor, SharedLine};
 use std::alloc::Global;
 use std::collections::VecDeque;
 use std::io::{Read, Write};

@@ -6,12 +6,11 @@ ghost use Rattle.cube_shape.specs.declared.limits.TheConstants.{MAX_LANES};
 ghost use Rattle.job_queue.specs.declared.record.QueuedJob.{QueuedJob};
 ghost use Rattle.dispatcher.specs.Reply.{answered, IsRight};
 ghost use Rattle.dispatcher.specs.Answers.{all_replies};
-ghost use Rattle.cube_occupancy.specs.Occupancy.{IsEmptyMachine};
+ghost use Rattle.cube_ledger.specs.Occupancy.{IsEmptyMachine};
 ghost use Rattle.cli_commands.specs.ReportRows.{free_row, rows_of};
 ghost use Rattle.cli_commands.specs.Inner.ReportRows.{dim_row_in, lane_row_in, total_row_in};
 
-use cube_ledger::{Ledger, Totals};
-use cube_occupancy::{Occupancy, occupancy};
+use cube_ledger::{Ledger, Occupancy, Totals, occupancy};
 use cube_shape::MAX_DIM;
 use dispatcher::Finished;
 use floors::Floor;

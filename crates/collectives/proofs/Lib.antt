@@ -4,3 +4,4 @@ pub mod PadLemmas
 pub mod BlockLemmas
 pub mod XorLemmas
 pub mod MessageLemmas
+mod StepLemmas

@@ -9,6 +9,10 @@
 //!
 //! If there are fewer items than places, `pad` puts the unit at the other places. This does not
 //! change the total.
+//!
+//! `step` says what one rank does in a round: the rank that it sends to, and the rank that it
+//! receives from. The steps of all ranks over all rounds are exactly the messages of the
+//! collective. Each is there once as a send and once as a receive.
 #![tactic(auto)]
 
 mod collective;
@@ -17,6 +21,7 @@ mod messages;
 mod monoid;
 mod operations;
 mod padding;
+mod partners;
 mod rounds;
 mod shape;
 
@@ -29,4 +34,5 @@ pub use operations::{
     Operand, Operator, Or, Xor,
 };
 pub use padding::pad;
+pub use partners::{Partners, messages_are_listed_once, step};
 pub use shape::{DIM_LIMIT, Shape, Tally};

@@ -8,16 +8,14 @@ mod words;
 use crate::outcome::{MeasureError, Measured, nanos_since};
 use cube_shape::{MAX_DIM, MAX_LANES};
 use dispatcher::{Finished, Plain, ShopRefused};
-use floor_bitmap::BitmapFloor;
-use floor_locked::LockedFloor;
+use dispatcher_threads::{RunEnd, SharedFloor, SharedLine, run};
 use floor_tree::TreeFloor;
 use floors::Floor;
 use job_queue::JobLine;
 use job_types::Job;
-use line_locked::LockedLine;
 use line_ruled::RuledLine;
 use lists::jobs_of_all;
-use shop_threads::{RunEnd, SharedFloor, SharedLine, run};
+use locked_peers::{LockedFloor, LockedLine};
 use std::alloc::Global;
 use std::collections::VecDeque;
 use std::rt::Clock;
@@ -75,7 +73,6 @@ fn measure_shop<R: Threads + Wait + Sync + Clock>(
 {
     match invocation.shop {
         ShopName::Free => run_shop::<R, RuledLine, TreeFloor>(rt, alloc, invocation),
-        ShopName::Bitmaps => run_shop::<R, RuledLine, BitmapFloor>(rt, alloc, invocation),
         ShopName::Locked => run_shop::<R, LockedLine, LockedFloor>(rt, alloc, invocation),
     }
 }

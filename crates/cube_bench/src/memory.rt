@@ -12,11 +12,9 @@ mod single;
 mod told;
 
 use crate::outcome::{MeasureError, Measured};
-use floor_bitmap::BitmapFloor;
-use floor_locked::LockedFloor;
 use floor_tree::TreeFloor;
-use line_locked::LockedLine;
 use line_ruled::RuledLine;
+use locked_peers::{LockedFloor, LockedLine};
 use std::alloc::Global;
 use std::io;
 use std::sync::Wait;
@@ -29,8 +27,6 @@ enum Calls {
     Files,
     // On the lock-free dispatcher, with this many jobs.
     Free(usize),
-    // On the lock-free dispatcher with the tree of bitmaps, with this many jobs.
-    Bitmaps(usize),
     // On the dispatcher under locks, with this many jobs.
     Locked(usize),
 }
@@ -45,7 +41,6 @@ fn calls_of_shop(words: &[String]) -> Option<Calls> {
     };
     match shop.as_str() {
         "free" => Some(Calls::Free(jobs)),
-        "bitmaps" => Some(Calls::Bitmaps(jobs)),
         "locked" => Some(Calls::Locked(jobs)),
         _ => None,
     }
@@ -70,7 +65,6 @@ fn call_all<R: Wait + Print>(rt: &R, alloc: Global, calls: Calls) -> io::Result<
         Calls::Items => items::call_all(rt, alloc),
         Calls::Files => files::call_all(rt, alloc),
         Calls::Free(jobs) => shop::call_all::<R, RuledLine, TreeFloor>(rt, alloc, jobs),
-        Calls::Bitmaps(jobs) => shop::call_all::<R, RuledLine, BitmapFloor>(rt, alloc, jobs),
         Calls::Locked(jobs) => shop::call_all::<R, LockedLine, LockedFloor>(rt, alloc, jobs),
     }
 }

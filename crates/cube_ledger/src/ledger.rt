@@ -6,10 +6,10 @@ ghost use Rattle.job_types.specs.Reply.{ReplyData};
 ghost use Rattle.cube_ledger.specs.Ledger.{HasAllSlips, is_any, is_of_dim, is_of_lane, processors_of, slip_of, totals_of};
 ghost use Rattle.cube_ledger.specs.Inner.Tables.{HasFewIdle, HasRoom, HasSmallDim, and_slip};
 
+use crate::log::Log;
 use crate::slip::Slip;
 use cube_shape::{MAX_DIM, MAX_LANES};
 use dispatcher::Finished;
-use ghost_log::Log;
 use job_types::Reply;
 use std::alloc::{AllocError, Global};
 use std::fmt;

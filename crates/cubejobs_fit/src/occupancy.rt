@@ -4,7 +4,7 @@ ghost use Rattle.std.specs.Prelude.{◌≡◌, ◌≢◌, ℕ, ◌-◌, ◌^◌,
 ghost use Rattle.cube_shape.specs.Region.{block};
 ghost use Rattle.cube_shape.specs.Machine.{HasNoFit, IsFree};
 ghost use Rattle.cube_shape.specs.Falling.{IsHeld};
-ghost use Rattle.region_bits.specs.Count.{IsCount};
+ghost use Rattle.alloc_bits.specs.Count.{IsCount};
 ghost use Rattle.fit_tree.specs.Image.{IsImage};
 ghost use Rattle.cubejobs_fit.specs.Answers.{CountsNone, HasOtherSize, HasSize, held_of};
 

@@ -4,9 +4,9 @@ use Rattle.std.proofs.lemmas.Bool.{cases_lt}
 use Rattle.std.proofs.lemmas.List.{get_or-set_other}
 use Rattle.std.proofs.lemmas.Grind.{get_or-set_at}
 use Rattle.std.proofs.Math.ListN.{set}
-use Rattle.job_lanes.specs.Lanes.{LanesId}
-use Rattle.kept_places.specs.declared.kept.KeptWorker.{KeptWorker}
-use Rattle.kept_places.specs.Kept.{AreWorkers, IsWorkerAt}
+use Rattle.lanes.specs.Lanes.{LanesId}
+use Rattle.cubejobs_lanes.specs.declared.kept.KeptWorker.{KeptWorker}
+use Rattle.cubejobs_lanes.specs.Kept.{AreWorkers, IsWorkerAt}
 
 none_some : (kept : KeptWorker) → None ≡ Some kept → ⊥
 none_some kept is = search rules

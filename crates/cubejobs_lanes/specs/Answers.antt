@@ -1,14 +1,14 @@
 -- What the answers say.
 use Rattle.std.specs.Prelude.{ℕ}
-use Rattle.job_lanes.specs.declared.submits.Submitted.{Submitted}
-use Rattle.job_lanes.specs.declared.submits.Submitted.TheVariants.{Accepted, Full, Closed, Spent}
-use Rattle.job_lanes.specs.declared.record.LaneJob.{LaneJob}
-use Rattle.job_lanes.specs.declared.rounds.Looked.{Looked}
-use Rattle.job_lanes.specs.declared.rounds.Looked.TheVariants.{Jobs, NoneLeft, AllTaken}
-use Rattle.job_lanes.specs.declared.rounds.TakenAny.{TakenAny}
-use Rattle.job_lanes.specs.declared.rounds.TakenAny.TheVariants.{AnyJob, NoJob, AllEnded}
-use Rattle.job_lanes.specs.declared.takes.Taken.{Taken}
-use Rattle.job_lanes.specs.declared.takes.Taken.TheVariants.{Job, Empty, Lost, Ended}
+use Rattle.lanes.specs.declared.submits.Submitted.{Submitted}
+use Rattle.lanes.specs.declared.submits.Submitted.TheVariants.{Accepted, Full, Closed, Spent}
+use Rattle.lanes.specs.declared.record.LaneJob.{LaneJob}
+use Rattle.lanes.specs.declared.rounds.Looked.{Looked}
+use Rattle.lanes.specs.declared.rounds.Looked.TheVariants.{Jobs, NoneLeft, AllTaken}
+use Rattle.lanes.specs.declared.rounds.TakenAny.{TakenAny}
+use Rattle.lanes.specs.declared.rounds.TakenAny.TheVariants.{AnyJob, NoJob, AllEnded}
+use Rattle.lanes.specs.declared.takes.Taken.{Taken}
+use Rattle.lanes.specs.declared.takes.Taken.TheVariants.{Job, Empty, Lost, Ended}
 use Rattle.cubejobs_lanes.specs.declared.answers.SubmitAnswer.{SubmitAnswer}
 use Rattle.cubejobs_lanes.specs.declared.answers.JobAnswer.{JobAnswer}
 use Rattle.cubejobs_lanes.specs.declared.answers.LookAnswer.{LookAnswer}

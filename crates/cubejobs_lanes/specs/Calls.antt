@@ -1,12 +1,12 @@
 -- What a call changes in the content of a handle.
 use Rattle.std.specs.Prelude.{◌≡◌, ℕ, ◌+◌, ◌≤◌}
 use Rattle.std.specs.Arc.{arc_value}
-use Rattle.job_lanes.specs.declared.submits.Submitted.{Submitted}
-use Rattle.job_lanes.specs.declared.rounds.Looked.{Looked}
-use Rattle.job_lanes.specs.declared.rounds.TakenAny.{TakenAny}
-use Rattle.job_lanes.specs.declared.takes.Taken.{Taken}
-use Rattle.job_lanes.specs.Lanes.{call_steps, ChangesOnly, Looks, SubmitKeeps, Submits, TakeAnyKeeps, Takes, TakesAny}
-use Rattle.job_lanes.specs.Record.{take_of}
+use Rattle.lanes.specs.declared.submits.Submitted.{Submitted}
+use Rattle.lanes.specs.declared.rounds.Looked.{Looked}
+use Rattle.lanes.specs.declared.rounds.TakenAny.{TakenAny}
+use Rattle.lanes.specs.declared.takes.Taken.{Taken}
+use Rattle.lanes.specs.Lanes.{call_steps, ChangesOnly, Looks, SubmitKeeps, Submits, TakeAnyKeeps, Takes, TakesAny}
+use Rattle.lanes.specs.Record.{take_of}
 use Rattle.cubejobs_lanes.specs.declared.answers.SubmitAnswer.{SubmitAnswer}
 use Rattle.cubejobs_lanes.specs.declared.answers.JobAnswer.{JobAnswer}
 use Rattle.cubejobs_lanes.specs.declared.answers.LookAnswer.{LookAnswer}

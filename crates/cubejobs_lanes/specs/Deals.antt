@@ -2,14 +2,14 @@
 use Rattle.std.specs.Prelude.{◌≡◌, ◌≢◌, ℕ, ◌<◌, ◌⊎◌, Option, Some, None, IsSome, List, length, slice_index_or, slice_set}
 use Rattle.std.specs.Arc.{arc_value}
 use Rattle.cubejobs_lanes.specs.declared.codes.TheConstants.{DONE, NONE_LEFT, OUT_OF_MEMORY}
-use Rattle.kept_places.specs.declared.kept.KeptLane.{KeptLane}
-use Rattle.kept_places.specs.declared.kept.KeptWorker.{KeptWorker}
+use Rattle.cubejobs_lanes.specs.declared.kept.KeptLane.{KeptLane}
+use Rattle.cubejobs_lanes.specs.declared.kept.KeptWorker.{KeptWorker}
 use Rattle.cubejobs_lanes.specs.declared.owner.Owner.{Owner}
 use Rattle.cubejobs_lanes.specs.declared.sides.LaneSide.{LaneSide}
 use Rattle.cubejobs_lanes.specs.declared.sides.WorkerSide.{WorkerSide}
 use Rattle.cubejobs_lanes.specs.declared.state.State.{State}
 use Rattle.cubejobs_lanes.specs.declared.state.State.TheVariants.{Lane, Worker}
-use Rattle.kept_places.specs.Places.{AreEmptyBelow}
+use Rattle.cubejobs_lanes.specs.Places.{AreEmptyBelow}
 use Rattle.cubejobs_lanes.specs.Returns.{HasCollected}
 
 -- A place is full.

@@ -1,14 +1,14 @@
 -- How lanes end.
 use Rattle.std.specs.Prelude.{◌≡◌, ℕ, Option, Some, List}
-use Rattle.job_lanes.specs.declared.record.LaneRecord.{LaneRecord}
-use Rattle.job_lanes.specs.declared.record.WorkerRecord.{WorkerRecord}
-use Rattle.job_lanes.specs.Lanes.{LanesId}
-use Rattle.job_lanes.specs.Run.{WholeLanes}
-use Rattle.kept_places.specs.declared.kept.KeptLane.{KeptLane}
-use Rattle.kept_places.specs.declared.kept.KeptWorker.{KeptWorker}
+use Rattle.lanes.specs.declared.record.LaneRecord.{LaneRecord}
+use Rattle.lanes.specs.declared.record.WorkerRecord.{WorkerRecord}
+use Rattle.lanes.specs.Lanes.{LanesId}
+use Rattle.lanes.specs.Run.{WholeLanes}
+use Rattle.cubejobs_lanes.specs.declared.kept.KeptLane.{KeptLane}
+use Rattle.cubejobs_lanes.specs.declared.kept.KeptWorker.{KeptWorker}
 use Rattle.cubejobs_lanes.specs.declared.left.Left.{Left}
 use Rattle.cubejobs_lanes.specs.declared.stage.Stage.{Stage}
-use Rattle.kept_places.specs.Kept.{kept_by}
+use Rattle.cubejobs_lanes.specs.Kept.{kept_by}
 use Rattle.cubejobs_lanes.specs.Stages.{IsClosedAt}
 
 -- The place has a lane of these lanes.

@@ -1,7 +1,7 @@
 -- What the answers of the calls say by which workers sleep and wake each other.
 use Rattle.std.specs.Prelude.{ℕ, Option, Some, None}
-use Rattle.job_lanes.specs.declared.finder.Found.{Found}
-use Rattle.job_lanes.specs.declared.finder.Found.TheVariants.{Job, Ended, Park, Again}
+use Rattle.lanes.specs.declared.finder.Found.{Found}
+use Rattle.lanes.specs.declared.finder.Found.TheVariants.{Job, Ended, Park, Again}
 use Rattle.wake_calls.specs.declared.waking.Wake.{Wake as WakeOutcome}
 use Rattle.wake_calls.specs.declared.waking.Wake.TheVariants as wake
 use Rattle.cubejobs_lanes.specs.declared.codes.TheConstants.{AGAIN, DONE, ENDED, NO_WORKER, NOBODY, PARK}

@@ -9,7 +9,7 @@ use Rattle.cubejobs_lanes.specs.Contents.{left_in, owner_in, On}
 use Rattle.cubejobs_lanes.specs.Ending.{IsLeftOf}
 use Rattle.cubejobs_lanes.specs.Returns.{HasCollected}
 use Rattle.cubejobs_lanes.specs.Owners.{lanes_of}
-use Rattle.kept_places.specs.Places.{AreFullBelow}
+use Rattle.cubejobs_lanes.specs.Places.{AreFullBelow}
 use Rattle.cubejobs_lanes.specs.Stages.{IsClosed, IsOpen}
 
 -- This place is the first that is empty.

@@ -1,6 +1,6 @@
 -- How the jobs that are left are given out.
 use Rattle.std.specs.Prelude.{◌≡◌, ◌⊎◌, ℕ, [], ◌∷◌, length}
-use Rattle.job_lanes.specs.declared.record.LaneJob.{LaneJob}
+use Rattle.lanes.specs.declared.record.LaneJob.{LaneJob}
 use Rattle.cubejobs_lanes.specs.declared.answers.JobAnswer.{JobAnswer}
 use Rattle.cubejobs_lanes.specs.declared.codes.TheConstants.{EMPTY}
 use Rattle.cubejobs_lanes.specs.declared.left.Left.{Left}

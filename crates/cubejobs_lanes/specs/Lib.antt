@@ -17,4 +17,8 @@ pub mod Sizes
 pub mod Sleeps
 pub mod Stages
 pub mod Wakes
-pub use Rattle.job_lanes.specs.Phases.{IsAwake}
+pub mod Kept
+pub mod Places
+pub mod KeptReturns
+pub mod KeptWakes
+pub use Rattle.lanes.specs.Phases.{IsAwake}

@@ -1,11 +1,11 @@
 -- What the first handle of some lanes has.
 use Rattle.std.specs.Prelude.{◌≡◌, ℕ}
 use Rattle.std.specs.Arc.{arc_value}
-use Rattle.job_lanes.specs.declared.sizes.Sizes.{Sizes}
-use Rattle.job_lanes.specs.Lanes.{LanesId}
+use Rattle.lanes.specs.declared.sizes.Sizes.{Sizes}
+use Rattle.lanes.specs.Lanes.{LanesId}
 use Rattle.cubejobs_lanes.specs.declared.owner.Owner.{Owner}
 use Rattle.cubejobs_lanes.specs.declared.sides.WorkerSide.{WorkerSide}
-use Rattle.kept_places.specs.Kept.{HasFreshLanes, HasFreshWorkers}
+use Rattle.cubejobs_lanes.specs.Kept.{HasFreshLanes, HasFreshWorkers}
 use Rattle.cubejobs_lanes.specs.Stages.{IsOpen}
 
 -- The lanes of an owner.

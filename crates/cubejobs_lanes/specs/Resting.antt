@@ -2,12 +2,12 @@
 use Rattle.std.specs.Prelude.{◌≡◌, ℕ, ◌<◌, false, Option, Some, None, IfSome, List}
 use Rattle.std.specs.Arc.{arc_value}
 use Rattle.wake_calls.specs.declared.deed.WakeDeed.{WakeDeed}
-use Rattle.job_lanes.specs.Deeds.{and_given, given_in, has_call}
-use Rattle.job_lanes.specs.declared.finder.At.{At}
-use Rattle.job_lanes.specs.declared.finder.At.TheVariants.{Idle, Parked}
-use Rattle.job_lanes.specs.declared.finder.Found.{Found}
-use Rattle.job_lanes.specs.declared.finder.Found.TheVariants.{Job, Ended, Park, Again}
-use Rattle.job_lanes.specs.declared.record.WorkerRecord.{WorkerRecord}
+use Rattle.lanes.specs.Deeds.{and_given, given_in, has_call}
+use Rattle.lanes.specs.declared.finder.At.{At}
+use Rattle.lanes.specs.declared.finder.At.TheVariants.{Idle, Parked}
+use Rattle.lanes.specs.declared.finder.Found.{Found}
+use Rattle.lanes.specs.declared.finder.Found.TheVariants.{Job, Ended, Park, Again}
+use Rattle.lanes.specs.declared.record.WorkerRecord.{WorkerRecord}
 use Rattle.cubejobs_lanes.specs.declared.codes.TheConstants.{ASLEEP, DONE, NOT_OPEN, OTHER_KIND}
 use Rattle.cubejobs_lanes.specs.declared.common.Common.{Common}
 use Rattle.cubejobs_lanes.specs.declared.find_answer.FindAnswer.{FindAnswer}

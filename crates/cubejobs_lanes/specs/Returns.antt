@@ -1,7 +1,7 @@
 -- How lanes and workers come back to their places.
 use Rattle.std.specs.Prelude.{◌≡◌}
 use Rattle.std.specs.Arc.{arc_value}
-use Rattle.kept_places.specs.Returns.{StayFull}
+use Rattle.cubejobs_lanes.specs.KeptReturns.{StayFull}
 use Rattle.cubejobs_lanes.specs.declared.owner.Owner.{Owner}
 
 -- Lanes and workers that had come back may be in places that were empty. Nothing else has changed.

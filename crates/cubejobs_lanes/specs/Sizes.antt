@@ -1,7 +1,7 @@
 -- The sizes of lanes, as C passes them.
 use Rattle.std.specs.Prelude.{◌<◌, ◌≤◌}
-use Rattle.job_lanes.specs.declared.sizes.Sizes.{Sizes}
-use Rattle.job_lanes.specs.declared.sizes.TheConstants.{MAX_CAPACITY, MAX_LANES, MAX_WORKERS}
+use Rattle.lanes.specs.declared.sizes.Sizes.{Sizes}
+use Rattle.lanes.specs.declared.sizes.TheConstants.{MAX_CAPACITY, MAX_LANES, MAX_WORKERS}
 use Rattle.cubejobs_lanes.specs.declared.sizes.LaneSizes.{LaneSizes}
 
 -- The same as sizes of lanes.

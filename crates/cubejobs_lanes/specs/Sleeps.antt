@@ -1,14 +1,14 @@
 -- What a worker of lanes that may lie down has, and what its calls change.
 use Rattle.std.specs.Prelude.{◌≡◌, ℕ, ◌<◌, ◌*◌, Option, Some, None, IfSome}
 use Rattle.std.specs.Arc.{arc_value}
-use Rattle.job_lanes.specs.declared.finder.At.{At}
-use Rattle.job_lanes.specs.declared.finder.At.TheVariants.{Idle, Parked}
-use Rattle.job_lanes.specs.declared.finder.Found.{Found}
-use Rattle.job_lanes.specs.declared.finder.Found.TheVariants.{Job, Ended, Park, Again}
-use Rattle.job_lanes.specs.declared.record.WorkerRecord.{WorkerRecord}
-use Rattle.job_lanes.specs.Phases.{IsAwake, IsFree}
-use Rattle.job_lanes.specs.Sleep.{Finds, find_steps}
-use Rattle.kept_places.specs.declared.tries.TheConstants.{TRIES}
+use Rattle.lanes.specs.declared.finder.At.{At}
+use Rattle.lanes.specs.declared.finder.At.TheVariants.{Idle, Parked}
+use Rattle.lanes.specs.declared.finder.Found.{Found}
+use Rattle.lanes.specs.declared.finder.Found.TheVariants.{Job, Ended, Park, Again}
+use Rattle.lanes.specs.declared.record.WorkerRecord.{WorkerRecord}
+use Rattle.lanes.specs.Phases.{IsAwake, IsFree}
+use Rattle.lanes.specs.Sleep.{Finds, find_steps}
+use Rattle.cubejobs_lanes.specs.declared.tries.TheConstants.{TRIES}
 use Rattle.cubejobs_lanes.specs.declared.sleeper_side.KeptJob.{KeptJob}
 use Rattle.cubejobs_lanes.specs.declared.sleeper_side.SleeperSide.{SleeperSide}
 

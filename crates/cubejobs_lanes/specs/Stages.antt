@@ -1,7 +1,7 @@
 -- Whether lanes are closed.
 use Rattle.std.specs.Prelude.{◌≡◌, List, ℕ}
-use Rattle.job_lanes.specs.Lanes.{LanesId, MembersOf}
-use Rattle.kept_places.specs.declared.kept.KeptNote.{KeptNote}
+use Rattle.lanes.specs.Lanes.{LanesId, MembersOf}
+use Rattle.cubejobs_lanes.specs.declared.kept.KeptNote.{KeptNote}
 use Rattle.cubejobs_lanes.specs.declared.stage.Stage.{Stage}
 use Rattle.cubejobs_lanes.specs.declared.stage.Stage.TheVariants.{Open, Closed}
 

@@ -2,8 +2,8 @@
 use Rattle.std.specs.Prelude.{◌≡◌}
 use Rattle.std.specs.Arc.{arc_value}
 use Rattle.wake_calls.specs.declared.waking.Wake.{Wake as WakeOutcome}
-use Rattle.job_lanes.specs.Deeds.{after_wake}
-use Rattle.kept_places.specs.Wakes.{LooksForSleepers}
+use Rattle.lanes.specs.Deeds.{after_wake}
+use Rattle.cubejobs_lanes.specs.KeptWakes.{LooksForSleepers}
 use Rattle.cubejobs_lanes.specs.declared.find_answer.WakeAnswer.{WakeAnswer}
 use Rattle.cubejobs_lanes.specs.declared.sides.LaneSide.{LaneSide}
 use Rattle.cubejobs_lanes.specs.Finds.{wake_answer}

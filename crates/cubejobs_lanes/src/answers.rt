@@ -3,7 +3,7 @@ ghost use Rattle.std.specs.Prelude.{◌≡◌};
 ghost use Rattle.cubejobs_lanes.specs.Answers.{any_answer, job_answer, look_answer, no_job, submit_answer, take_answer};
 
 use crate::codes::{CLOSED, DONE, EMPTY, ENDED, FULL, LOST, SPENT};
-use job_lanes::{LaneJob, Looked, Submitted, Taken, TakenAny};
+use lanes::{LaneJob, Looked, Submitted, Taken, TakenAny};
 
 /// The answer of a submit.
 #[repr(C)]

@@ -3,9 +3,9 @@ ghost use Rattle.std.specs.Prelude.{◌≡◌, IfNone, IfSome};
 ghost use Rattle.cubejobs_lanes.specs.Closing.{HasClosed};
 ghost use Rattle.cubejobs_lanes.specs.Stages.{IsOpen, IsClosed};
 
+use crate::kept::KeptNote;
 use crate::owner::Owner;
 use crate::stage::Stage;
-use kept_places::KeptNote;
 
 impl Owner {
     // Closes all lanes. Returns how many jobs they have accepted, unless they were closed.

@@ -1,10 +1,11 @@
 //! What the handles of some lanes have in common.
 ghost use Rattle.std.specs.Prelude.{◌≡◌, ◌≤◌, length};
-ghost use Rattle.job_lanes.specs.declared.sizes.TheConstants.{MAX_LANES, MAX_WORKERS};
-ghost use Rattle.kept_places.specs.Returns.{AreNamed};
+ghost use Rattle.lanes.specs.declared.sizes.TheConstants.{MAX_LANES, MAX_WORKERS};
+ghost use Rattle.cubejobs_lanes.specs.KeptReturns.{AreNamed};
 
-use job_lanes::{Lanes, Sizes};
-use kept_places::{KeptLane, KeptWorker, ReturnPlace};
+use crate::kept::{KeptLane, KeptWorker};
+use crate::returns::ReturnPlace;
+use lanes::{Lanes, Sizes};
 
 /// The lanes, their sizes, and the places by which lanes and workers come back.
 #[derive(Drop)]

@@ -4,9 +4,9 @@ ghost use Rattle.cubejobs_lanes.specs.Deals.{AsksLane, AsksWorker, HasDealtLane,
 
 use crate::codes::{DONE, NONE_LEFT, OUT_OF_MEMORY};
 use crate::owner::Owner;
+use crate::places::{first_full, take_from};
 use crate::sides::{LaneSide, WorkerSide};
 use crate::state::State;
-use kept_places::{first_full, take_from};
 use std::alloc::Global;
 use std::sync::Arc;
 

@@ -8,12 +8,13 @@ ghost use Rattle.cubejobs_lanes.specs.Stages.{IsClosed, IsStageOf};
 use crate::answers::FinishAnswer;
 use crate::codes::{DONE, LANE_OUT, NOT_CLOSED, STILL_SHARED, WORKER_OUT};
 use crate::common::Common;
+use crate::kept::{KeptLane, KeptWorker};
 use crate::left::Left;
 use crate::owner::Owner;
+use crate::places::first_empty;
 use crate::stage::Stage;
 use crate::state::State;
-use job_lanes::{Lanes, LanesEnd};
-use kept_places::{KeptLane, KeptWorker, first_empty};
+use lanes::{Lanes, LanesEnd};
 use std::collections::VecDeque;
 use std::sync::Arc;
 

@@ -3,7 +3,7 @@ ghost use Rattle.std.specs.Prelude.{◌≡◌};
 ghost use Rattle.cubejobs_lanes.specs.Finds.{find_answer, no_find, wake_answer, woken_number};
 
 use crate::codes::{AGAIN, DONE, ENDED, NO_WORKER, NOBODY, PARK};
-use job_lanes::{Found, LaneJob};
+use lanes::{Found, LaneJob};
 use wake_calls::Wake;
 
 /// The answer of a call that finds a job or lets the worker lie down. All is 0 except the code and

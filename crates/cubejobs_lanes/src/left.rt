@@ -3,7 +3,7 @@ ghost use Rattle.cubejobs_lanes.specs.Lefts.{GivesJob};
 
 use crate::answers::JobAnswer;
 use crate::codes::EMPTY;
-use job_lanes::LaneJob;
+use lanes::LaneJob;
 use std::collections::VecDeque;
 
 /// The jobs that are left, each with its lane.

@@ -1,14 +1,15 @@
 //! How lanes are opened.
 ghost use Rattle.std.specs.Prelude.{◌≡◌, ◌<◌, ◌≤◌, ◌+◌, IfOk, length};
-ghost use Rattle.job_lanes.specs.declared.sizes.TheConstants.{MAX_CAPACITY, MAX_LANES, MAX_WORKERS};
-ghost use Rattle.kept_places.specs.Kept.{HasFreshLanes, HasFreshWorkers};
+ghost use Rattle.lanes.specs.declared.sizes.TheConstants.{MAX_CAPACITY, MAX_LANES, MAX_WORKERS};
+ghost use Rattle.cubejobs_lanes.specs.Kept.{HasFreshLanes, HasFreshWorkers};
 ghost use Rattle.cubejobs_lanes.specs.Owners.{IsNew};
 
 use crate::common::Common;
+use crate::kept::{KeptLane, KeptWorker};
 use crate::owner::Owner;
+use crate::returns::named_places;
 use crate::stage::Stage;
-use job_lanes::{Lanes, Members, Sizes};
-use kept_places::{KeptLane, KeptWorker, named_places};
+use lanes::{Lanes, Members, Sizes};
 use std::alloc::{AllocError, Global};
 use std::sync::Arc;
 

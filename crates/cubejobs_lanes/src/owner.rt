@@ -1,12 +1,12 @@
 //! What the first handle of some lanes has: the lanes and workers that no other handle has.
 ghost use Rattle.std.specs.Prelude.{◌≡◌, length};
 ghost use Rattle.std.specs.Arc.{arc_value};
-ghost use Rattle.kept_places.specs.Kept.{AreLanes, AreWorkers};
+ghost use Rattle.cubejobs_lanes.specs.Kept.{AreLanes, AreWorkers};
 ghost use Rattle.cubejobs_lanes.specs.Stages.{IsStageOf};
 
 use crate::common::Common;
+use crate::kept::{KeptLane, KeptWorker};
 use crate::stage::Stage;
-use kept_places::{KeptLane, KeptWorker};
 use std::sync::Arc;
 
 /// The lanes, and a place for each of their lanes and workers. A place is empty while a handle has

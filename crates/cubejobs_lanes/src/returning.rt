@@ -2,7 +2,7 @@
 ghost use Rattle.cubejobs_lanes.specs.Returns.{HasCollected};
 
 use crate::owner::Owner;
-use kept_places::collect_all;
+use crate::returns::collect_all;
 
 impl Owner {
     // Takes the lanes and workers that have come back into their places.

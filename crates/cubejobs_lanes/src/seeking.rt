@@ -1,14 +1,14 @@
 //! A worker of lanes finds a job, or lies down.
 ghost use Rattle.std.specs.Prelude.{ℕ, ◌≡◌, ◌<◌, false, true, Some, IfSome};
 ghost use Rattle.std.specs.Arc.{arc_value};
-ghost use Rattle.job_lanes.specs.declared.finder.At.TheVariants.{Parked as AtParked};
-ghost use Rattle.job_lanes.specs.Deeds.{and_given, given_in, has_call};
-ghost use Rattle.job_lanes.specs.Phases.{IsAwake};
+ghost use Rattle.lanes.specs.declared.finder.At.TheVariants.{Parked as AtParked};
+ghost use Rattle.lanes.specs.Deeds.{and_given, given_in, has_call};
+ghost use Rattle.lanes.specs.Phases.{IsAwake};
 ghost use Rattle.cubejobs_lanes.specs.Sleeps.{Seeks};
 
 use crate::sleeper_side::{KeptJob, SleeperSide};
-use job_lanes::{At, Finding, Found};
-use kept_places::TRIES;
+use crate::tries::TRIES;
+use lanes::{At, Finding, Found};
 
 impl SleeperSide {
     // Goes on to wake another worker. Returns the job that it keeps once that is over.

@@ -1,12 +1,13 @@
 //! A producer and a worker, each with its share of the lanes.
 ghost use Rattle.std.specs.Prelude.{◌≡◌, ◌<◌, ◌≤◌, ◌+◌, IfErr, IfOk};
 ghost use Rattle.std.specs.Arc.{arc_value};
-ghost use Rattle.job_lanes.specs.Lanes.{call_steps, ChangesOnly, Looks, SubmitKeeps, Submits, TakeAnyKeeps, Takes, TakesAny};
-ghost use Rattle.job_lanes.specs.Record.{take_of};
+ghost use Rattle.lanes.specs.Lanes.{call_steps, ChangesOnly, Looks, SubmitKeeps, Submits, TakeAnyKeeps, Takes, TakesAny};
+ghost use Rattle.lanes.specs.Record.{take_of};
 
 use crate::common::Common;
-use job_lanes::{Lane, Looked, Submitted, Taken, TakenAny, Worker};
-use kept_places::{KeptLane, KeptWorker, leave};
+use crate::kept::{KeptLane, KeptWorker};
+use crate::returns::leave;
+use lanes::{Lane, Looked, Submitted, Taken, TakenAny, Worker};
 use std::sync::Arc;
 
 /// The right to submit jobs to one lane.

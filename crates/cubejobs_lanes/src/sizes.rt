@@ -2,7 +2,7 @@
 ghost use Rattle.std.specs.Prelude.{◌≡◌, ◌↔◌, IsTrue};
 ghost use Rattle.cubejobs_lanes.specs.Sizes.{sizes_of, AreInLimits};
 
-use job_lanes::{MAX_CAPACITY, MAX_LANES, MAX_WORKERS, Sizes};
+use lanes::{MAX_CAPACITY, MAX_LANES, MAX_WORKERS, Sizes};
 
 /// The number of lanes and of workers, and the number of jobs that a lane holds.
 #[repr(C)]
@@ -24,7 +24,7 @@ impl LaneSizes {
         lanes && workers && capacity
     }
 
-    // Returns the sizes as `job_lanes` takes them.
+    // Returns the sizes as `lanes` takes them.
     pub(crate) fn sizes(self) -> Sizes
         ensures { result ≡ sizes_of self }
     {

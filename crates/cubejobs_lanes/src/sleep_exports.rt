@@ -1,6 +1,6 @@
 //! The calls by which workers of lanes sleep and wake each other, under the names that C declares.
 ghost use Rattle.std.specs.Prelude.{◌≡◌, ◌≢◌, ◌<◌, ◌≤◌, ◌⊎◌, Some, IfErr, IfOk};
-ghost use Rattle.job_lanes.specs.Phases.{IsAwake};
+ghost use Rattle.lanes.specs.Phases.{IsAwake};
 ghost use Rattle.cubejobs_lanes.specs.Contents.{lane_in, lane_refusal, worker_refusal, On};
 ghost use Rattle.cubejobs_lanes.specs.Finds.{no_find};
 ghost use Rattle.cubejobs_lanes.specs.Handle.{content_of};
@@ -13,7 +13,7 @@ use crate::find_answer::{FindAnswer, NumberAnswer, WakeAnswer, number_of};
 use crate::handle::Handle;
 use crate::sleeper_side::SleeperSide;
 use crate::state::State;
-use job_lanes::Found;
+use lanes::Found;
 use std::mem::{forget, replace};
 
 // Returns the number of lanes of a worker, or why the call is refused.

@@ -1,13 +1,13 @@
 //! A worker of lanes that lies down while there is no job, with its share of the lanes.
 ghost use Rattle.std.specs.Prelude.{◌≡◌, ◌<◌, None, IfSome};
 ghost use Rattle.std.specs.Arc.{arc_value};
-ghost use Rattle.kept_places.proofs.PropLemmas.{free_props};
-ghost use Rattle.job_lanes.specs.declared.finder.At.TheVariants.{Idle as AtIdle};
-ghost use Rattle.job_lanes.specs.Phases.{IsFree};
+ghost use Rattle.lanes.proofs.PropLemmas.{free_props};
+ghost use Rattle.lanes.specs.declared.finder.At.TheVariants.{Idle as AtIdle};
+ghost use Rattle.lanes.specs.Phases.{IsFree};
 
 use crate::common::Common;
 use crate::sides::WorkerSide;
-use job_lanes::{Finder, LaneJob};
+use lanes::{Finder, LaneJob};
 use std::sync::Arc;
 
 /// A job that a worker took, and that no call has returned yet.

@@ -1,7 +1,7 @@
 //! Whether lanes are closed.
 
-use job_lanes::Members;
-use kept_places::KeptNote;
+use crate::kept::KeptNote;
+use lanes::Members;
 
 /// Whether lanes are closed.
 #[derive(Drop)]

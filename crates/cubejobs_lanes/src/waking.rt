@@ -1,11 +1,11 @@
 //! A producer of lanes wakes a worker that sleeps.
 ghost use Rattle.std.specs.Prelude.{◌≡◌};
 ghost use Rattle.std.specs.Arc.{arc_value};
-ghost use Rattle.job_lanes.specs.Deeds.{after_wake};
-ghost use Rattle.kept_places.specs.Wakes.{LooksForSleepers};
+ghost use Rattle.lanes.specs.Deeds.{after_wake};
+ghost use Rattle.cubejobs_lanes.specs.KeptWakes.{LooksForSleepers};
 
 use crate::sides::LaneSide;
-use kept_places::TRIES;
+use crate::tries::TRIES;
 use wake_calls::Wake;
 
 impl LaneSide {

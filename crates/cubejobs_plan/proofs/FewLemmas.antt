@@ -1,11 +1,11 @@
 -- There are at most as many jobs as slots.
 use Rattle.std.proofs.Common.{◌≡◌, ℕ, zero, suc, ◌<◌, ◌≤◌, inl, inr, List, [], ◌∷◌, ◌++◌, length, sym, ◌∙◌, subst, arith}
 use Rattle.std.proofs.lemmas.List.{length-append}
-use Rattle.region_bits.specs.Count.{IsCount}
-use Rattle.wait_queue.specs.Lists.{Has, IsRising}
-use Rattle.wait_queue.specs.Nodes.{key_of}
-use Rattle.wait_queue.specs.declared.nodes.TheConstants.{MAX_SLOTS}
-use Rattle.wait_queue.proofs.ListLemmas.{has_cases, rising_append, rising_few}
+use Rattle.alloc_bits.specs.Count.{IsCount}
+use Rattle.sched_jobs.specs.Lists.{Has, IsRising}
+use Rattle.sched_jobs.specs.Nodes.{key_of}
+use Rattle.sched_jobs.specs.declared.nodes.TheConstants.{MAX_SLOTS}
+use Rattle.sched_jobs.proofs.ListLemmas.{has_cases, rising_append, rising_few}
 use Rattle.sched_law.specs.State.{Sched}
 use Rattle.sched_jobs.specs.Slots.{IsPresent}
 use Rattle.sched_jobs.proofs.SlotLemmas.{inside_table}

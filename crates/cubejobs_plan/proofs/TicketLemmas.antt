@@ -1,6 +1,6 @@
 -- A ticket names one job.
 use Rattle.std.proofs.Common.{◌≡◌, ℕ, ◌+◌, ◌*◌, ◌<◌, ◌≤◌, sym, ◌∙◌, ap, arith}
-use Rattle.wait_queue.specs.declared.nodes.TheConstants.{MAX_SLOTS}
+use Rattle.sched_jobs.specs.declared.nodes.TheConstants.{MAX_SLOTS}
 use Rattle.sched_law.specs.declared.job.Place.TheVariants.{Waiting, Running}
 use Rattle.sched_law.specs.declared.job.SchedWait.{SchedWait}
 use Rattle.sched_law.specs.declared.job.SchedRun.{SchedRun}

@@ -8,7 +8,7 @@ use Rattle.sched_law.specs.declared.job.SchedJob.{SchedJob}
 use Rattle.sched_law.specs.declared.job.SchedRun.{SchedRun}
 use Rattle.sched_law.specs.State.{Sched}
 use Rattle.sched_law.specs.Policy.{IsLatest}
-use Rattle.region_bits.specs.Count.{IsCount}
+use Rattle.alloc_bits.specs.Count.{IsCount}
 use Rattle.sched_core.specs.declared.scheduler.Core.{Core}
 use Rattle.sched_core.specs.Answers.{ComesBefore}
 use Rattle.sched_core.specs.Shows.{job_arrival, job_place, job_ticket}

@@ -1,7 +1,7 @@
 -- What an answer counts.
 use Rattle.std.specs.Prelude.{◌≡◌, ℕ, ◌^◌, ◌<◌, ◌≤◌, ◌⊎◌, ◌↔◌}
 use Rattle.cube_shape.specs.Falling.{IsHeld}
-use Rattle.region_bits.specs.Count.{IsCount}
+use Rattle.alloc_bits.specs.Count.{IsCount}
 use Rattle.sched_law.specs.State.{Sched, IsVacant, held}
 use Rattle.sched_law.specs.Policy.{HasNone}
 use Rattle.sched_jobs.specs.Counts.{DoesRun, DoesWait}

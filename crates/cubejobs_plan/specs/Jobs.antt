@@ -10,8 +10,8 @@ use Rattle.sched_law.specs.Law.{IsSound}
 use Rattle.sched_law.specs.Policy.{Decides}
 use Rattle.sched_core.specs.declared.scheduler.Core.{Core}
 use Rattle.sched_core.specs.Shows.{IsSpent, IsTaken, KeepsGenerations, KeepsOthers, KeepsSlots, ShowsCore, dim_of, job_arrival, job_generation, job_place, job_ticket, slots_of, submitted_of}
-use Rattle.sched_request.specs.declared.request.JobRequest.{JobRequest}
-use Rattle.sched_request.specs.Request.{IsAskable, IsAsked}
+use Rattle.sched_core.specs.declared.request.JobRequest.{JobRequest}
+use Rattle.sched_core.specs.Request.{IsAskable, IsAsked}
 use Rattle.cubejobs_plan.specs.declared.answer.PlanJob.{PlanJob}
 use Rattle.cubejobs_plan.specs.Answers.{IsAnswer}
 

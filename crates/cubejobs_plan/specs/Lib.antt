@@ -11,4 +11,4 @@ pub mod Options
 pub mod Sizes
 pub use Rattle.sched_core.specs.Shows.{ShowsCore, dim_of, time_of}
 pub use Rattle.sched_law.specs.State.{Sched}
-pub use Rattle.sched_request.specs.Request.{IsAskable}
+pub use Rattle.sched_core.specs.Request.{IsAskable}

@@ -1,7 +1,7 @@
 -- What a look at the scheduler finds.
 use Rattle.std.specs.Prelude.{◌≡◌, ℕ, ◌+◌, ◌%◌, ◌==◌, if◌then◌else◌}
 use Rattle.sched_law.specs.State.{Sched}
-use Rattle.wait_queue.specs.declared.nodes.TheConstants.{MAX_SLOTS}
+use Rattle.sched_jobs.specs.declared.nodes.TheConstants.{MAX_SLOTS}
 use Rattle.sched_core.specs.declared.scheduler.Core.{Core}
 use Rattle.sched_core.specs.Shows.{HasNoneTaken, IsNextTaken, ShowsCore}
 use Rattle.cubejobs_plan.specs.declared.answer.PlanJob.{PlanJob}

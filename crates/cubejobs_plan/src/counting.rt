@@ -2,7 +2,7 @@
 
 ghost use Rattle.std.specs.Prelude.{◌≡◌, ◌^◌, ◌≤◌};
 ghost use Rattle.cube_shape.specs.declared.limits.TheConstants.{MAX_BITMAP_DIM};
-ghost use Rattle.region_bits.specs.Count.{IsCount};
+ghost use Rattle.alloc_bits.specs.Count.{IsCount};
 ghost use Rattle.sched_law.specs.State.{Sched};
 ghost use Rattle.sched_jobs.specs.Counts.{DoesRun, DoesWait};
 ghost use Rattle.sched_jobs.specs.Sums.{asked as asked_in};

@@ -3,7 +3,7 @@ ghost use Rattle.std.specs.Prelude.{◌≡◌, ◌≢◌, ◌⊎◌, None};
 ghost use Rattle.sched_core.specs.Shows.{dim_of};
 ghost use Rattle.cubejobs_plan.specs.Answers.{SaysNothing};
 ghost use Rattle.cubejobs_plan.specs.Handle.{OnCore, OnCores, core_of};
-ghost use Rattle.sched_request.specs.Request.{IsAskable};
+ghost use Rattle.sched_core.specs.Request.{IsAskable};
 ghost use Rattle.cubejobs_plan.specs.Jobs.{IsFull, IsRefused, IsSubmitted};
 
 use crate::answer::PlanJob;
@@ -11,7 +11,7 @@ use crate::answers::refused;
 use crate::codes::{DONE, FULL, NOT_OPEN, OUT_OF_RANGE};
 use crate::handle::Handle;
 use crate::submitting::submit;
-use sched_request::JobRequest;
+use sched_core::JobRequest;
 
 /// Submits a job, which waits from now on.
 #[unsafe(no_mangle)]

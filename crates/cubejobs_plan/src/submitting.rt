@@ -3,14 +3,13 @@
 ghost use Rattle.std.specs.Prelude.{◌≡◌, ◌≢◌, ◌⊎◌};
 ghost use Rattle.sched_core.specs.Shows.{dim_of};
 ghost use Rattle.cubejobs_plan.specs.Answers.{SaysNothing};
-ghost use Rattle.sched_request.specs.Request.{IsAskable};
+ghost use Rattle.sched_core.specs.Request.{IsAskable};
 ghost use Rattle.cubejobs_plan.specs.Jobs.{IsFull, IsRefused, IsSubmitted};
 
 use crate::answer::PlanJob;
 use crate::answers::{answer_at_last, refused};
 use crate::codes::{DONE, FULL, OUT_OF_RANGE};
-use sched_core::{NEVER, Scheduler};
-use sched_request::{JobRequest, is_askable, job_of};
+use sched_core::{JobRequest, NEVER, Scheduler, is_askable, job_of};
 
 /// Submits a job.
 pub(crate) fn submit(scheduler: &mut Scheduler, request: JobRequest) -> PlanJob

@@ -3,14 +3,13 @@
 ghost use Rattle.std.specs.Prelude.{◌≡◌, ◌≢◌, ℕ, ◌^◌, ◌<◌, ◌≤◌, ◌↔◌, Some};
 ghost use Rattle.collectives.specs.Shape.{message_count};
 ghost use Rattle.collectives.specs.Messages.{IsAlongAnEdge};
-ghost use Rattle.rank_steps.specs.Steps.{IsListed, IsNumber, message};
+ghost use Rattle.collectives.specs.Steps.{IsListed, IsNumber, message};
 ghost use Rattle.cubejobs_rounds.specs.Rounds.{IsCollective, rank_in, shape_of};
 
 use crate::answers::{CountAnswer, MessageAnswer, NO_RANK, StepAnswer, number_of};
 use crate::codes::{BAD_DIMENSION, BAD_NUMBER, BAD_RANK, BAD_ROOT, BAD_ROUND, BAD_SHAPE, DONE};
 use crate::shapes::{SHAPES, shape_at};
-use collectives::{DIM_LIMIT, message_at};
-use rank_steps::step;
+use collectives::{DIM_LIMIT, message_at, step};
 
 // Returns `DONE` if the numbers name a collective and its root. Otherwise returns the fault, the
 // first of `BAD_SHAPE`, `BAD_DIMENSION` and `BAD_ROOT` that applies.

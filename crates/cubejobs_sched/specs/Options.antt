@@ -1,8 +1,8 @@
 -- What a scheduler may be opened for.
 use Rattle.std.specs.Prelude.{◌<◌, ◌≤◌}
 use Rattle.cube_shape.specs.declared.limits.TheConstants.{MAX_BITMAP_DIM}
-use Rattle.wait_queue.specs.declared.nodes.TheConstants.{MAX_SLOTS}
-use Rattle.sched_pool.specs.declared.workers.TheConstants.{MAX_WORKERS}
+use Rattle.sched_jobs.specs.declared.nodes.TheConstants.{MAX_SLOTS}
+use Rattle.sched_board.specs.declared.workers.TheConstants.{MAX_WORKERS}
 use Rattle.cubejobs_sched.specs.declared.options.SchedOptions.{SchedOptions}
 
 -- Each option is in its range.

@@ -6,7 +6,7 @@ use Rattle.fit_tree.specs.Rooms.{IsJoin, IsRight, room_of}
 use Rattle.fit_tree.specs.Image.{AreCounted}
 use Rattle.fit_tree.proofs.CountLemmas.{count_unique}
 use Rattle.fit_tree.proofs.MaximalLemmas.{MaximalIn}
-use Rattle.region_bits.specs.Count.{IsCount}
+use Rattle.alloc_bits.specs.Count.{IsCount}
 
 -- a leaf and an inner node
 pub right_leaf : (rooms : List ℕ) (d v : ℕ) → d ≡ 0 → ((room_of rooms v ≡ 0) ⊎ (room_of rooms v ≡ 2)) ↔ IsRight rooms d v

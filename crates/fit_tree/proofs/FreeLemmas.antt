@@ -9,7 +9,7 @@ use Rattle.cube_shape.specs.Falling.{IsFreeProcessor, IsHeld}
 use Rattle.cube_shape.specs.Machine.{Holdings, IsFree}
 use Rattle.cube_shape.specs.Node.{OnPath}
 use Rattle.cube_shape.proofs.PathLemmas.{OnPath-le, OnPath-linear, OnPath-parent, OnPath-trans, OnPath-up}
-use Rattle.region_bits.specs.Count.{IsCount}
+use Rattle.alloc_bits.specs.Count.{IsCount}
 use Rattle.fit_tree.specs.Rooms.{IsNode, IsSound, room_of}
 use Rattle.fit_tree.specs.Image.{AreCounted, IsMaximal}
 use Rattle.fit_tree.specs.InnerNodes.{HasNoTakenAbove, IsOpen}

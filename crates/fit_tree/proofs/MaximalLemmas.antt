@@ -7,7 +7,7 @@ use Rattle.std.proofs.lemmas.Bool.{cases_lt, cases_eq}
 use Rattle.std.proofs.Math.Pow.{pow_mono}
 use Rattle.cube_shape.specs.declared.limits.TheConstants.{MAX_BITMAP_DIM}
 use Rattle.cube_shape.proofs.PathLemmas.{child_cases}
-use Rattle.region_bits.specs.Count.{IsCount}
+use Rattle.alloc_bits.specs.Count.{IsCount}
 use Rattle.fit_tree.specs.Rooms.{IsNode, room_of}
 use Rattle.fit_tree.specs.Image.{AreCounted, IsMaximal}
 use Rattle.fit_tree.specs.InnerNodes.{IsTopped, Weighs}

@@ -1,6 +1,6 @@
 -- The image of a machine: a head with counts, and a room for each node.
 use Rattle.std.specs.Prelude.{◌≡◌, ◌≢◌, ℕ, ◌+◌, ◌-◌, ◌/◌, ◌^◌, ◌<◌, ◌≤◌, ◌⊎◌, List, length, slice_index}
-use Rattle.region_bits.specs.Count.{IsCount}
+use Rattle.alloc_bits.specs.Count.{IsCount}
 use Rattle.fit_tree.specs.declared.head.Head.{Head}
 use Rattle.fit_tree.specs.declared.head.TheConstants.{IMAGE_MARK}
 use Rattle.fit_tree.specs.Rooms.{room_of, IsSound}

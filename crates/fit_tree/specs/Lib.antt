@@ -11,8 +11,8 @@ pub mod InnerApart
 pub mod InnerRepresents
 pub mod InnerRepair
 pub use Rattle.cube_shape.specs.Region.{Covers, IsAligned, block}
-pub use Rattle.cube_shape.specs.Node.{IsNodeOf}
 pub use Rattle.cube_shape.specs.Machine.{Gives, HasNoFit, Holdings, IsFirstFit, IsFree, IsLawful, TakesBack}
 pub use Rattle.cube_shape.specs.Falling.{HoldsNoNarrower, IsFull, IsHeld}
-pub use Rattle.region_bits.specs.Count.{IsCount}
+pub use Rattle.alloc_bits.specs.Count.{IsCount}
 pub use Rattle.fixed_vec.specs.Spending.{HasWords, Spends}
+pub use Rattle.cube_shape.specs.Node.{IsNodeOf}

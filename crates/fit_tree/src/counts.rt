@@ -1,7 +1,7 @@
 //! The counts of maximal free blocks, and writes of a room that keep them right.
 
 ghost use Rattle.std.specs.Prelude.{◌≡◌, ◌≢◌, ℕ, ◌+◌, ◌-◌, ◌*◌, ◌^◌, ◌<◌, ◌≤◌, ◌↔◌, ◌⊎◌, length, slice_index, slice_set, IsTrue};
-ghost use Rattle.region_bits.specs.Count.{IsCount};
+ghost use Rattle.alloc_bits.specs.Count.{IsCount};
 ghost use Rattle.fit_tree.specs.Rooms.{room_of, IsNode};
 ghost use Rattle.fit_tree.specs.Image.{AreCounted, IsMaximal};
 ghost use Rattle.fit_tree.specs.InnerNodes.{IsEnd, IsTopped, Weighs};

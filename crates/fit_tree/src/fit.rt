@@ -6,7 +6,7 @@ ghost use Rattle.cube_shape.specs.Region.{Covers, IsAligned, block};
 ghost use Rattle.cube_shape.specs.Node.{IsNodeOf};
 ghost use Rattle.cube_shape.specs.Falling.{HoldsNoNarrower, IsFull, IsHeld};
 ghost use Rattle.cube_shape.specs.Machine.{Gives, HasNoFit, IsFirstFit, IsFree, IsLawful, TakesBack};
-ghost use Rattle.region_bits.specs.Count.{IsCount};
+ghost use Rattle.alloc_bits.specs.Count.{IsCount};
 ghost use Rattle.fixed_vec.specs.Spending.{HasWords, Spends};
 ghost use Rattle.fit_tree.specs.FirstApart.{HasNoneApart, IsFirstApart};
 ghost use Rattle.fit_tree.specs.Fit.{HoldsBlock, fit_words, held_in};

@@ -10,7 +10,7 @@ ghost use Rattle.cube_shape.specs.Node.{IsNodeOf};
 ghost use Rattle.cube_shape.specs.Falling.{IsHeld};
 ghost use Rattle.cube_shape.specs.Machine.{Gives, HasNoFit, IsFirstFit, IsFree, TakesBack};
 ghost use Rattle.cube_shape.specs.declared.region.Region.{Region as HeldRegion};
-ghost use Rattle.region_bits.specs.Count.{IsCount};
+ghost use Rattle.alloc_bits.specs.Count.{IsCount};
 ghost use Rattle.fit_tree.specs.declared.head.Head.{Head as ImageHead};
 ghost use Rattle.fit_tree.specs.Fit.{HoldsBlock, held_in};
 ghost use Rattle.fit_tree.specs.FirstApart.{HasNoneApart, IsFirstApart};

@@ -15,18 +15,18 @@
 //! standard error says what is waited for.
 //!
 //! The whole program is `program::run` of `cli_commands`, and `check` and `messages` of
-//! `tool_commands`, over any words, files and streams. This file ties them to the process.
+//! `cli_tools`, over any words, files and streams. This file ties them to the process.
 #![tactic(auto)]
 
 use atomic_file::SystemFiles;
 use cli_commands::program;
 use cli_commands::program::{Console, Ending};
+use cli_tools::ToolEnding;
 use jobs_csv::{Counted, Fault};
 use std::io::IsTerminal;
 use std::process::ExitCode;
 use std::rt::Env;
 use std::{io, process};
-use tool_commands::ToolEnding;
 
 // Returns the words of the command line, from the program's name on.
 fn words<R: Env + AllocGlobal>(rt: &R) -> io::Result<Vec<String>> {
@@ -53,19 +53,19 @@ fn is_dumb(rt: &impl Env) -> bool {
 
 // Carries out `check` or `messages`, if the words are for one of them.
 fn tool(rt: &HostRuntime, words: &[String]) -> Option<ExitCode> {
-    let words = match tool_commands::tool_words(rt.alloc(), words) {
+    let words = match cli_tools::tool_words(rt.alloc(), words) {
         Ok(words) => words?,
         Err(_) => {
             let fault = Fault::no_memory();
             let _reported = rt.eprintln(fault);
-            return Some(tool_commands::exit_code(ToolEnding::Failed(fault)));
+            return Some(cli_tools::exit_code(ToolEnding::Failed(fault)));
         }
     };
     let command = words.first()?;
     if command.as_str() == "messages" {
         let (mut writer, mut errors) = (Counted::new(rt.stdout()), rt.stderr());
-        let ending = tool_commands::messages(rt.alloc(), &words, &mut writer, &mut errors);
-        return Some(tool_commands::exit_code(ending));
+        let ending = cli_tools::messages(rt.alloc(), &words, &mut writer, &mut errors);
+        return Some(cli_tools::exit_code(ending));
     }
     let input = rt.stdin();
     let prompt = if input.is_terminal() {
@@ -75,19 +75,19 @@ fn tool(rt: &HostRuntime, words: &[String]) -> Option<ExitCode> {
     };
     let process_id = process::id(rt.process());
     let store = SystemFiles { rt, process_id };
-    let mut console = tool_commands::ToolConsole {
+    let mut console = cli_tools::ToolConsole {
         reader: Counted::new(input),
         writer: Counted::new(rt.stdout()),
         errors: rt.stderr(),
         prompt,
     };
-    let ending = tool_commands::check(rt.alloc(), &words, &store, &mut console);
+    let ending = cli_tools::check(rt.alloc(), &words, &store, &mut console);
     // The store holds nothing that must be ended.
     let SystemFiles {
         rt: _,
         process_id: _,
     } = store;
-    Some(tool_commands::exit_code(ending))
+    Some(cli_tools::exit_code(ending))
 }
 
 fn main(rt: HostRuntime) -> ExitCode {

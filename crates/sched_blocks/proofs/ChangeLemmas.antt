@@ -15,12 +15,12 @@ use Rattle.sched_law.specs.State.{Sched, IsVacant, Runs, Waits, block_of, end_af
 use Rattle.sched_law.specs.Law.{IsSafe}
 use Rattle.sched_law.proofs.SetLemmas.{look, none_is_some, same, set_else, set_here}
 use Rattle.sched_law.proofs.SafeLemmas.{finish_safe, occupy_safe, start_safe, vacate_safe}
-use Rattle.block_trees.specs.Ends.{AreEnds, HasNoEndBeside}
-use Rattle.block_trees.specs.Busy.{AreBusy, HasNoneBeside}
-use Rattle.block_trees.specs.Use.{AreOwnEnds, AreUsed, IsInUse, Tracks}
-use Rattle.block_trees.proofs.FollowLemmas.{finish_own, finish_used, occupy_own, occupy_used, start_own, start_used, vacate_own, vacate_used}
-use Rattle.block_trees.proofs.EndLemmas.{ends_alike}
-use Rattle.block_trees.proofs.UseLemmas.{idle_no_end, no_end_beside, used_alone, vacant_idle}
+use Rattle.sched_blocks.specs.Ends.{AreEnds, HasNoEndBeside}
+use Rattle.sched_blocks.specs.Busy.{AreBusy, HasNoneBeside}
+use Rattle.sched_blocks.specs.Use.{AreOwnEnds, AreUsed, IsInUse, Tracks}
+use Rattle.sched_blocks.proofs.FollowLemmas.{finish_own, finish_used, occupy_own, occupy_used, start_own, start_used, vacate_own, vacate_used}
+use Rattle.sched_blocks.proofs.EndLemmas.{ends_alike}
+use Rattle.sched_blocks.proofs.UseLemmas.{idle_no_end, no_end_beside, used_alone, vacant_idle}
 use Rattle.sched_blocks.specs.Layout.{Layout}
 use Rattle.sched_blocks.specs.Shows.{Shows}
 use Rattle.sched_blocks.proofs.LatestLemmas.{in_use_aligned}

@@ -14,7 +14,7 @@ use Rattle.fit_tree.proofs.NodeLemmas.{IsNode-left, IsNode-of, IsNode-right, IsN
 use Rattle.fit_tree.proofs.SplitLemmas.{named_lower, named_upper}
 use Rattle.sched_law.specs.State.{Sched}
 use Rattle.sched_law.specs.Policy.{HasUsable, HasUsableIn, IsBetter}
-use Rattle.block_trees.specs.Busy.{IsEarlier}
+use Rattle.sched_blocks.specs.Busy.{IsEarlier}
 use Rattle.sched_blocks.specs.Layout.{Layout}
 use Rattle.sched_blocks.specs.Shows.{Shows}
 use Rattle.sched_blocks.specs.Inner.{HasFreeIn}

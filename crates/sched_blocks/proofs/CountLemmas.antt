@@ -1,7 +1,7 @@
 -- How many processors jobs hold, and how many are out of service.
 use Rattle.std.proofs.Common.{◌≡◌, ℕ, zero, suc, ◌+◌, ◌-◌, ◌^◌, ◌≤◌, ◌⊎◌, inl, inr, sym, ◌∙◌, subst, arith}
 use Rattle.cube_shape.specs.Falling.{IsHeld}
-use Rattle.region_bits.specs.Count.{IsCount}
+use Rattle.alloc_bits.specs.Count.{IsCount}
 use Rattle.fit_tree.specs.Fit.{held_in}
 use Rattle.fit_tree.proofs.CountLemmas.{count_alike}
 use Rattle.sched_law.specs.State.{Sched, held}

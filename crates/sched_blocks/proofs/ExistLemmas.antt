@@ -7,8 +7,8 @@ use Rattle.cube_shape.specs.Region.{AreApart, IsAligned, block}
 use Rattle.cube_shape.specs.Machine.{Holdings, IsFree}
 use Rattle.cube_shape.proofs.RegionLemmas.{IsAligned-block, IsAligned-end, IsNodeOf-of_aligned}
 use Rattle.fit_tree.specs.Halves.{lower_half, upper_half}
-use Rattle.block_trees.specs.Ends.{entry_of}
-use Rattle.block_trees.specs.Busy.{IsEarlier}
+use Rattle.sched_blocks.specs.Ends.{entry_of}
+use Rattle.sched_blocks.specs.Busy.{IsEarlier}
 use Rattle.sched_law.specs.declared.job.TheConstants.{NEVER}
 use Rattle.sched_law.specs.declared.job.SchedRun.{SchedRun}
 use Rattle.sched_law.specs.State.{Sched, IsUsable, IsVacant, Runs, block_of, held}

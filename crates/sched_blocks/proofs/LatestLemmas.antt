@@ -13,10 +13,10 @@ use Rattle.fit_tree.proofs.NodeLemmas.{IsNode-of, same_dim, steps_up}
 use Rattle.sched_law.specs.State.{Sched}
 use Rattle.sched_law.specs.Law.{IsSafe}
 use Rattle.sched_law.specs.Policy.{IsLatest}
-use Rattle.block_trees.specs.Ends.{entry_of}
-use Rattle.block_trees.specs.Use.{HasNoneAbove, IsInUse, Tracks}
-use Rattle.block_trees.proofs.ServeLemmas.{serves_latest, serves_latest_under}
-use Rattle.block_trees.proofs.UseLemmas.{named_at, related, used_alone}
+use Rattle.sched_blocks.specs.Ends.{entry_of}
+use Rattle.sched_blocks.specs.Use.{HasNoneAbove, IsInUse, Tracks}
+use Rattle.sched_blocks.proofs.ServeLemmas.{serves_latest, serves_latest_under}
+use Rattle.sched_blocks.proofs.UseLemmas.{named_at, related, used_alone}
 use Rattle.sched_blocks.specs.Layout.{Layout}
 use Rattle.sched_blocks.specs.Shows.{Shows}
 

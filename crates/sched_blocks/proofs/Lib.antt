@@ -7,3 +7,9 @@ pub mod PartLemmas
 pub mod ChildLemmas
 pub mod CountLemmas
 pub mod ExistLemmas
+pub mod ClimbLemmas
+pub mod EndLemmas
+pub mod BusyLemmas
+pub mod UseLemmas
+pub mod ServeLemmas
+pub mod FollowLemmas

@@ -17,8 +17,8 @@ use Rattle.sched_law.specs.Policy.{Chooses, HasNone, HasUsable, HasUsableIn, IsB
 use Rattle.sched_law.specs.Policy as policy
 use Rattle.sched_law.proofs.BlockLemmas.{inner, no_block, upper_aligned}
 use Rattle.sched_law.proofs.PolicyLemmas.{usable_in_machine, vacant_inside}
-use Rattle.block_trees.specs.Busy.{IsEarlier}
-use Rattle.block_trees.proofs.ServeLemmas.{serves_better}
+use Rattle.sched_blocks.specs.Busy.{IsEarlier}
+use Rattle.sched_blocks.proofs.ServeLemmas.{serves_better}
 use Rattle.std.specs.Prelude.{◌↔◌, Bool, IsTrue, List, Option, Some, None, IfSome, IfNone}
 use Rattle.sched_blocks.specs.Layout.{Layout}
 use Rattle.sched_blocks.specs.Shows.{Shows}

@@ -10,10 +10,10 @@ use Rattle.sched_law.specs.Policy.{IsHead, Prepares}
 use Rattle.sched_law.specs.Policy as policy
 use Rattle.sched_law.specs.Law.{IsSafe, IsSound}
 use Rattle.sched_law.proofs.SafeLemmas.{at_safe, cancel_safe, pass_safe, prepare_safe, submit_safe}
-use Rattle.block_trees.specs.Ends.{AreEnds}
-use Rattle.block_trees.specs.Busy.{AreBusy}
-use Rattle.block_trees.specs.Use.{AreOwnEnds, AreUsed, IsInUse}
-use Rattle.block_trees.proofs.FollowLemmas.{at_own, at_used, cancel_own, cancel_used, pass_own, pass_used, reserve_own, reserve_used, submit_own, submit_used}
+use Rattle.sched_blocks.specs.Ends.{AreEnds}
+use Rattle.sched_blocks.specs.Busy.{AreBusy}
+use Rattle.sched_blocks.specs.Use.{AreOwnEnds, AreUsed, IsInUse}
+use Rattle.sched_blocks.proofs.FollowLemmas.{at_own, at_used, cancel_own, cancel_used, pass_own, pass_used, reserve_own, reserve_used, submit_own, submit_used}
 use Rattle.sched_blocks.specs.Layout.{Layout}
 use Rattle.sched_blocks.specs.Shows.{Shows}
 use Rattle.sched_blocks.proofs.LatestLemmas.{in_use_aligned}

@@ -9,10 +9,10 @@ use Rattle.cube_shape.proofs.RegionLemmas.{IsAligned-block}
 use Rattle.cube_shape.specs.Machine.{HasNoFit, IsFirstFit, IsFree}
 use Rattle.fit_tree.specs.Fit.{Fit, held_in}
 use Rattle.fit_tree.specs.FirstApart.{HasNoneApart, IsFirstApart}
-use Rattle.block_trees.specs.Ends.{AreEnds}
-use Rattle.block_trees.specs.Busy.{AreBusy}
-use Rattle.block_trees.specs.Use.{IsInUse}
-use Rattle.block_trees.proofs.FollowLemmas.{initial_own, initial_used}
+use Rattle.sched_blocks.specs.Ends.{AreEnds}
+use Rattle.sched_blocks.specs.Busy.{AreBusy}
+use Rattle.sched_blocks.specs.Use.{IsInUse}
+use Rattle.sched_blocks.proofs.FollowLemmas.{initial_own, initial_used}
 use Rattle.sched_law.specs.State.{Sched, IsUsable, IsVacant, initial}
 use Rattle.sched_law.specs.Policy.{HasNone, HasUsable, IsFirst, IsVacantBeside}
 use Rattle.sched_law.proofs.BlockLemmas.{inner, no_block}

@@ -3,7 +3,7 @@ use Rattle.std.specs.Prelude.{◌≡◌, ℕ, ◌+◌, ◌^◌, Bool, Some}
 use Rattle.cube_shape.specs.declared.region.Region.{Region}
 use Rattle.fit_tree.specs.Fit.{fit_words, held_in}
 use Rattle.sched_law.specs.State.{Sched}
-use Rattle.block_trees.specs.Use.{IsInUse, Tracks}
+use Rattle.sched_blocks.specs.Use.{IsInUse, Tracks}
 use Rattle.sched_blocks.specs.Layout.{Layout}
 
 -- The blocks show the state, which is safe. They have its dimension, hold exactly its blocks in

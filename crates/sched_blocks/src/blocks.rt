@@ -5,7 +5,7 @@ ghost use Rattle.cube_shape.specs.declared.region.Region.{Region as HeldRegion};
 ghost use Rattle.cube_shape.specs.Region.{IsAligned, block};
 ghost use Rattle.cube_shape.specs.Node.{IsNodeOf};
 ghost use Rattle.cube_shape.specs.Falling.{IsHeld};
-ghost use Rattle.region_bits.specs.Count.{IsCount};
+ghost use Rattle.alloc_bits.specs.Count.{IsCount};
 ghost use Rattle.sched_law.specs.declared.job.SchedWait.{SchedWait as WaitData};
 ghost use Rattle.sched_law.specs.declared.job.SchedRun.{SchedRun as RunData};
 ghost use Rattle.sched_law.specs.State.{Sched, IsVacant, Runs, Waits, end_after, finish, held, initial, occupy, start, vacate};
@@ -13,8 +13,9 @@ ghost use Rattle.sched_law.specs.Policy.{Chooses, HasNone, HasUsable, HasUsableI
 ghost use Rattle.fixed_vec.specs.Spending.{HasWords, Spends};
 ghost use Rattle.sched_blocks.specs.Shows.{Shows, block_words};
 
+use crate::ends::end_at;
 use crate::nodes::{block_of, node_of, note_idle, note_use};
-use block_trees::{end_at, is_earlier, open};
+use crate::trees::{is_earlier, open};
 use cube_shape::{MAX_BITMAP_DIM, Region};
 use fit_tree::FitTree;
 use fixed_vec::{FixedVec, Store};

@@ -5,10 +5,11 @@ ghost use Rattle.cube_shape.specs.Region.{IsAligned};
 ghost use Rattle.cube_shape.specs.Node.{IsNodeOf};
 ghost use Rattle.fit_tree.specs.Rooms.{IsNode};
 ghost use Rattle.sched_law.specs.State.{set};
-ghost use Rattle.block_trees.specs.Ends.{AreEnds, HasNoEndBeside};
-ghost use Rattle.block_trees.specs.Busy.{AreBusy, HasNoneBeside};
+ghost use Rattle.sched_blocks.specs.Ends.{AreEnds, HasNoEndBeside};
+ghost use Rattle.sched_blocks.specs.Busy.{AreBusy, HasNoneBeside};
 
-use block_trees::{add_busy, drop_busy, set_end};
+use crate::busy::{add_busy, drop_busy};
+use crate::ends::set_end;
 use cube_shape::{MAX_BITMAP_DIM, Region};
 use fixed_vec::FixedVec;
 

@@ -1,10 +1,10 @@
 -- Deeds in a row, and boards that follow one another.
 use Rattle.std.proofs.Common.{◌≡◌, ℕ, List, [], ◌∷◌, ◌++◌, refl, sym, ◌∙◌, ap, subst, append_assoc}
 use Rattle.std.proofs.lemmas.List.{append-nil}
-use Rattle.sched_pool.specs.Pool.{workers_of}
-use Rattle.sched_team.specs.Team.{Deed, May, Team, after}
+use Rattle.sched_board.specs.Pool.{workers_of}
+use Rattle.sched_law.specs.Team.{Deed, May, Team, after}
 use Rattle.sched_board.specs.declared.board.JobBoard.{JobBoard}
-use Rattle.sched_team.specs.Team.Deed.{submits, cancels, occupies, vacates, asks, leaves, ends, starts, settles, closes}
+use Rattle.sched_law.specs.Team.Deed.{submits, cancels, occupies, vacates, asks, leaves, ends, starts, settles, closes}
 use Rattle.sched_board.specs.declared.board.BoardPhase.TheVariants.{Stopped}
 use Rattle.sched_board.specs.JobBoard.{AreDecisions, AreDecisionsAt, DecidesAt, Follows, FollowsAt, IsDecision, IsDecisionAt, KeepsPhase, Leads, MayAll, ShowsTeam, after_all}
 

@@ -1,3 +1,5 @@
 pub mod FollowLemmas
 pub mod ShowLemmas
 pub mod ServeLemmas
+pub mod RunLemmas
+pub mod PoolLemmas

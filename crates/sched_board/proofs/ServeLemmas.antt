@@ -1,10 +1,10 @@
 -- Workers that got a job, over several decisions.
 use Rattle.std.proofs.Common.{◌≡◌, ◌≢◌, ℕ, ◌≤◌, ◌⊎◌, inl, inr, Option, None, Some, List, sym, ◌∙◌, ap, subst}
 use Rattle.std.proofs.lemmas.Bool.{cases_eq}
-use Rattle.sched_pool.specs.declared.workers.PoolWorker.{PoolWorker}
-use Rattle.sched_pool.specs.declared.workers.PoolWorker.TheVariants.{Away, Waiting, Busy}
-use Rattle.sched_pool.specs.Workers.{does}
-use Rattle.sched_pool.specs.Pool.{HasSameWorkers, KeepsWorkers, worker_in}
+use Rattle.sched_board.specs.declared.workers.PoolWorker.{PoolWorker}
+use Rattle.sched_board.specs.declared.workers.PoolWorker.TheVariants.{Away, Waiting, Busy}
+use Rattle.sched_board.specs.Workers.{does}
+use Rattle.sched_board.specs.Pool.{HasSameWorkers, KeepsWorkers, worker_in}
 use Rattle.sched_board.specs.declared.board.JobBoard.{JobBoard}
 use Rattle.sched_board.specs.declared.serving.WorkerStage.{WorkerStage}
 use Rattle.sched_board.specs.declared.woken.TheConstants.{MOST_WOKEN}

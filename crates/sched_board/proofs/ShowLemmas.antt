@@ -6,12 +6,12 @@ use Rattle.sched_law.proofs.SetLemmas.{set_else, set_here}
 use Rattle.sched_core.specs.declared.scheduler.Core.{Core}
 use Rattle.sched_core.specs.Shows.{HasSameJobs, IsTaken, ShowsCore, job_arrival, job_place}
 use Rattle.sched_core.proofs.JobLemmas.{running_present}
-use Rattle.sched_pool.specs.declared.workers.PoolWorker.{PoolWorker}
-use Rattle.sched_pool.specs.declared.workers.PoolWorker.TheVariants.{Away, Waiting, Busy}
-use Rattle.sched_pool.specs.Workers.{does}
-use Rattle.sched_pool.specs.Pool.{IsStaffed, KeepsWorkers, worker_in}
-use Rattle.sched_team.specs.Team.{Does, Team}
-use Rattle.sched_team.specs.Team.Does.{away, waits, has}
+use Rattle.sched_board.specs.declared.workers.PoolWorker.{PoolWorker}
+use Rattle.sched_board.specs.declared.workers.PoolWorker.TheVariants.{Away, Waiting, Busy}
+use Rattle.sched_board.specs.Workers.{does}
+use Rattle.sched_board.specs.Pool.{IsStaffed, KeepsWorkers, worker_in}
+use Rattle.sched_law.specs.Team.{Does, Team}
+use Rattle.sched_law.specs.Team.Does.{away, waits, has}
 use Rattle.sched_board.specs.declared.board.JobBoard.{JobBoard}
 use Rattle.sched_board.specs.JobBoard.{ShowsTeam, does_in, is_closed}
 

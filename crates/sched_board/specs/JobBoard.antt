@@ -6,12 +6,12 @@ use Rattle.sched_law.specs.declared.job.TheConstants.{NEVER}
 use Rattle.sched_law.specs.State.{Sched, IsVacant}
 use Rattle.sched_law.specs.Policy.{IsSettled}
 use Rattle.sched_core.specs.Shows.{IsSpent, IsTaken, ShowsCore, job_arrival, slots_of, submitted_of}
-use Rattle.sched_pool.specs.declared.workers.PoolWorker.{PoolWorker}
-use Rattle.sched_pool.specs.declared.workers.PoolWorker.TheVariants.{Away, Waiting, Busy}
-use Rattle.sched_pool.specs.Pool.{HasNoneIdle, HasSameCore, HasSameWorkers, worker_in, workers_of}
-use Rattle.sched_team.specs.Team.{Deed, Does, May, Team, after, opened}
-use Rattle.sched_team.specs.Team.Deed.{settles, starts}
-use Rattle.sched_team.specs.Team.Does.{away, has, waits}
+use Rattle.sched_board.specs.declared.workers.PoolWorker.{PoolWorker}
+use Rattle.sched_board.specs.declared.workers.PoolWorker.TheVariants.{Away, Waiting, Busy}
+use Rattle.sched_board.specs.Pool.{HasNoneIdle, HasSameCore, HasSameWorkers, worker_in, workers_of}
+use Rattle.sched_law.specs.Team.{Deed, Does, May, Team, after, opened}
+use Rattle.sched_law.specs.Team.Deed.{settles, starts}
+use Rattle.sched_law.specs.Team.Does.{away, has, waits}
 use Rattle.sched_board.specs.declared.board.JobBoard.{JobBoard}
 use Rattle.sched_board.specs.declared.board.BoardPhase.{BoardPhase}
 use Rattle.sched_board.specs.declared.board.BoardPhase.TheVariants.{Open, Closing, Stopped}

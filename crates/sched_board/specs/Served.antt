@@ -2,7 +2,7 @@
 use Rattle.std.specs.Prelude.{◌≡◌, ◌≢◌, ℕ, ◌<◌, ◌≤◌, ◌⊎◌, List, [], ◌∷◌}
 use Rattle.cube_shape.specs.declared.region.Region.{Region}
 use Rattle.cube_shape.specs.Region.{IsAligned}
-use Rattle.region_bits.specs.Count.{IsCount}
+use Rattle.alloc_bits.specs.Count.{IsCount}
 use Rattle.sched_law.specs.declared.job.Place.TheVariants.{Absent, Running, Waiting as Queued}
 use Rattle.sched_law.specs.declared.job.SchedJob.{SchedJob}
 use Rattle.sched_law.specs.declared.job.SchedRun.{SchedRun}
@@ -12,13 +12,13 @@ use Rattle.sched_law.specs.State.{Sched}
 use Rattle.sched_jobs.specs.Counts.{DoesRun}
 use Rattle.sched_core.specs.declared.scheduler.Core.{Core}
 use Rattle.sched_core.specs.Shows.{IsTaken, KeepsGenerations, KeepsOthers, ShowsCore, dim_of, job_arrival, job_place, job_ticket, slots_of, submitted_of}
-use Rattle.sched_pool.specs.declared.workers.PoolWorker.{PoolWorker}
-use Rattle.sched_pool.specs.declared.workers.PoolWorker.TheVariants.{Away, Busy, Waiting}
-use Rattle.sched_pool.specs.Pool.{worker_in}
-use Rattle.sched_team.specs.Team.{Deed}
-use Rattle.sched_team.specs.Team.Deed.{asks, cancels, ends, leaves, submits}
-use Rattle.sched_request.specs.declared.request.JobRequest.{JobRequest}
-use Rattle.sched_request.specs.Request.{IsAskable, IsAsked}
+use Rattle.sched_board.specs.declared.workers.PoolWorker.{PoolWorker}
+use Rattle.sched_board.specs.declared.workers.PoolWorker.TheVariants.{Away, Busy, Waiting}
+use Rattle.sched_board.specs.Pool.{worker_in}
+use Rattle.sched_law.specs.Team.{Deed}
+use Rattle.sched_law.specs.Team.Deed.{asks, cancels, ends, leaves, submits}
+use Rattle.sched_core.specs.declared.request.JobRequest.{JobRequest}
+use Rattle.sched_core.specs.Request.{IsAskable, IsAsked}
 use Rattle.sched_board.specs.declared.board.JobBoard.{JobBoard}
 use Rattle.sched_board.specs.declared.board.BoardPhase.TheVariants.{Closing, Stopped}
 use Rattle.sched_board.specs.declared.board.BoardRefusal.TheVariants.{Closed as IsShut, Full as HasNoRoom}

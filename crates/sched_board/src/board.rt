@@ -8,18 +8,20 @@ ghost use Rattle.sched_law.specs.State.{Sched, IsVacant};
 ghost use Rattle.sched_law.specs.Law.{IsSound};
 ghost use Rattle.fixed_vec.specs.Spending.{HasWords, Spends};
 ghost use Rattle.sched_core.specs.Shows.{KeepsGenerations, KeepsOthers, KeepsSlots, ShowsCore, dim_of, job_arrival, job_place, slots_of, submitted_of};
-ghost use Rattle.sched_pool.specs.declared.workers.PoolWorker.TheVariants.{Away, Waiting, Busy};
-ghost use Rattle.sched_pool.specs.Pool.{HasSameWorkers, KeepsWorkers, pool_words, worker_in, workers_of};
-ghost use Rattle.sched_team.specs.Team.Deed.{asks, cancels, closes, ends, leaves, occupies, submits, vacates};
+ghost use Rattle.sched_board.specs.declared.workers.PoolWorker.TheVariants.{Away, Waiting, Busy};
+ghost use Rattle.sched_board.specs.Pool.{HasSameWorkers, KeepsWorkers, pool_words, worker_in, workers_of};
+ghost use Rattle.sched_law.specs.Team.Deed.{asks, cancels, closes, ends, leaves, occupies, submits, vacates};
 ghost use Rattle.sched_board.specs.JobBoard.{DecidesAt, HasReason, IsAtRest, IsClosed, IsFresh, IsInUse, IsNotOut, IsUnchanged, KeepsPhase, Leads, Serves, NamesWoken, phase_after};
 ghost use Rattle.sched_board.specs.declared.board.BoardPhase.TheVariants.{Stopped};
 ghost use Rattle.sched_board.specs.declared.woken.TheConstants.{MOST_WOKEN};
 
+use crate::pool::Pool;
 use crate::sizes::ThreadSizes;
 use crate::woken::{MOST_WOKEN, Woken};
+use crate::workers::{MAX_WORKERS, PoolWorker};
 use cube_shape::{MAX_BITMAP_DIM, Region};
 use fixed_vec::Store;
-use sched_pool::{CLASSES, MAX_SLOTS, MAX_WORKERS, NEVER, Pool, PoolWorker, SchedJob, Scheduler};
+use sched_core::{CLASSES, MAX_SLOTS, NEVER, SchedJob, Scheduler};
 use std::alloc::AllocError;
 
 /// Whether jobs may come, and whether those that wait may start.

@@ -2,8 +2,8 @@
 
 ghost use Rattle.std.specs.Prelude.{◌≡◌, [], ◌∷◌, None, IfOk, IfErr, IfSome, IfNone, IsTrue, IsFalse};
 ghost use Rattle.sched_core.specs.Shows.{KeepsGenerations, KeepsSlots, slots_of};
-ghost use Rattle.sched_pool.specs.Pool.{HasSameWorkers, workers_of};
-ghost use Rattle.sched_team.specs.Team.Deed.{closes, occupies, vacates};
+ghost use Rattle.sched_board.specs.Pool.{HasSameWorkers, workers_of};
+ghost use Rattle.sched_law.specs.Team.Deed.{closes, occupies, vacates};
 ghost use Rattle.sched_board.specs.declared.board.BoardPhase.TheVariants.{Stopped};
 ghost use Rattle.sched_board.specs.declared.woken.TheConstants.{MOST_WOKEN};
 ghost use Rattle.sched_board.specs.JobBoard.{FollowsAt, IsAtRest, IsClosed, IsUnchanged, KeepsPhase, Leads, Serves, NamesWoken, phase_after};
@@ -13,8 +13,7 @@ use crate::blocks::is_block;
 use crate::board::{BoardPhase, BoardRefusal, JobBoard};
 use crate::woken::Woken;
 use cube_shape::Region;
-use sched_pool::Place;
-use sched_request::{JobRequest, is_askable, job_of};
+use sched_core::{JobRequest, Place, is_askable, job_of};
 
 /// What follows from a call for workers.
 #[derive(Clone, Copy, Debug, PartialEq, Eq)]

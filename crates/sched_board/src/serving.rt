@@ -1,8 +1,8 @@
 //! How workers are served.
 
 ghost use Rattle.std.specs.Prelude.{◌≡◌, ◌≢◌, ℕ, ◌<◌, ◌↔◌, Some, IfSome, IfNone, IsSome, IsNone, IsTrue, IsFalse};
-ghost use Rattle.sched_pool.specs.declared.workers.PoolWorker.TheVariants.{Away, Busy};
-ghost use Rattle.sched_pool.specs.Pool.{worker_in, workers_of};
+ghost use Rattle.sched_board.specs.declared.workers.PoolWorker.TheVariants.{Away, Busy};
+ghost use Rattle.sched_board.specs.Pool.{worker_in, workers_of};
 ghost use Rattle.sched_board.specs.declared.board.BoardPhase.TheVariants.{Stopped};
 ghost use Rattle.sched_board.specs.declared.woken.TheConstants.{MOST_WOKEN};
 ghost use Rattle.sched_board.specs.declared.serving.WorkerStage.TheVariants.{Asked};
@@ -12,7 +12,7 @@ ghost use Rattle.sched_board.specs.Served.{FitsStage, HasStopped, IsOver, IsStar
 use crate::board::{BoardPhase, JobBoard};
 use crate::start::ThreadStart;
 use crate::woken::Woken;
-use sched_pool::PoolWorker;
+use crate::workers::PoolWorker;
 
 /// What a worker knows of itself between its turns.
 #[derive(Clone, Copy, Debug, PartialEq, Eq, Hash)]

@@ -1,12 +1,13 @@
 //! A job that starts, as its worker sees it.
 
 ghost use Rattle.std.specs.Prelude.{◌≡◌, ℕ, ◌<◌, IfSome, IfNone};
-ghost use Rattle.sched_pool.specs.declared.workers.PoolWorker.TheVariants.{Busy};
-ghost use Rattle.sched_pool.specs.Pool.{worker_in, workers_of};
+ghost use Rattle.sched_board.specs.declared.workers.PoolWorker.TheVariants.{Busy};
+ghost use Rattle.sched_board.specs.Pool.{worker_in, workers_of};
 ghost use Rattle.sched_board.specs.Served.{IsStart};
 
 use crate::board::JobBoard;
-use sched_pool::{Place, PoolWorker};
+use crate::workers::PoolWorker;
+use sched_core::Place;
 
 /// A job that starts.
 #[derive(Clone, Copy, Debug, PartialEq, Eq, Hash)]

@@ -1,14 +1,15 @@
 //! Rounds of a board with two workers.
 
 ghost use Rattle.std.specs.Prelude.{◌≡◌, ℕ, ◌<◌};
-ghost use Rattle.sched_pool.specs.declared.workers.PoolWorker.TheVariants.{Away};
-ghost use Rattle.sched_pool.specs.Pool.{worker_in, workers_of};
+ghost use Rattle.sched_board.specs.declared.workers.PoolWorker.TheVariants.{Away};
+ghost use Rattle.sched_board.specs.Pool.{worker_in, workers_of};
 
 use crate::board::{BoardPhase, BoardRefusal, JobBoard};
 use crate::sizes::ThreadSizes;
 use crate::woken::Woken;
+use crate::workers::PoolWorker;
 use fixed_vec::Store;
-use sched_pool::{Place, PoolWorker, SchedJob};
+use sched_core::{Place, SchedJob};
 use std::alloc::Global;
 use std::process::Abort;
 

@@ -1,6 +1,6 @@
 -- Which jobs come before a waiting one.
 use Rattle.std.proofs.Common.{◌≡◌, ◌≢◌, ℕ, ◌+◌, ◌<◌, ◌⊎◌, inl, inr, Some, None, sym, ◌∙◌, ap, subst, arith}
-use Rattle.region_bits.specs.Count.{IsCount}
+use Rattle.alloc_bits.specs.Count.{IsCount}
 use Rattle.sched_law.specs.declared.job.SchedWait.{SchedWait}
 use Rattle.sched_law.specs.declared.job.Place.TheVariants.{Waiting}
 use Rattle.sched_law.specs.State.{Sched, Waits}

@@ -1,7 +1,7 @@
 -- What a table that shows a state says of its slots.
 use Rattle.std.proofs.Common.{◌≡◌, ℕ, ◌<◌, ◌≤◌, inl, inr, sym, ◌∙◌, ap, subst, arith}
 use Rattle.std.proofs.lemmas.Bool.{cases_eq}
-use Rattle.wait_queue.specs.declared.nodes.TheConstants.{MAX_SLOTS}
+use Rattle.sched_jobs.specs.declared.nodes.TheConstants.{MAX_SLOTS}
 use Rattle.sched_law.specs.declared.job.SchedJob.{SchedJob}
 use Rattle.sched_law.specs.declared.job.SchedWait.{SchedWait}
 use Rattle.sched_law.specs.declared.job.SchedRun.{SchedRun}

@@ -5,3 +5,4 @@ pub mod ChoiceLemmas
 pub mod PickLemmas
 pub mod HeldLemmas
 pub mod BeforeLemmas
+pub mod DimLemmas

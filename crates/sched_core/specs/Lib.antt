@@ -1,9 +1,10 @@
 pub mod Shows
 pub mod Answers
 pub mod Inner
+pub mod Request
 pub use Rattle.cube_shape.specs.Region.{IsAligned}
 pub use Rattle.cube_shape.specs.Falling.{IsHeld}
-pub use Rattle.region_bits.specs.Count.{IsCount}
+pub use Rattle.alloc_bits.specs.Count.{IsCount}
 pub use Rattle.sched_law.specs.State.{Sched, IsVacant, Runs, Waits, end_after, held, set}
 pub use Rattle.sched_law.specs.State.{at, cancel, finish, initial, occupy, pass, reserve, start}
 pub use Rattle.sched_law.specs.State.{submit, vacate}

@@ -1,7 +1,7 @@
 //! What is known of a job's start and end, and which jobs come before it.
 
 ghost use Rattle.std.specs.Prelude.{◌≡◌, ℕ, ◌+◌, ◌<◌, IsTrue, IsFalse};
-ghost use Rattle.region_bits.specs.Count.{IsCount};
+ghost use Rattle.alloc_bits.specs.Count.{IsCount};
 ghost use Rattle.sched_law.specs.declared.job.TheConstants.{NEVER as LAST};
 ghost use Rattle.sched_law.specs.declared.job.Place.TheVariants.{Waiting};
 ghost use Rattle.sched_law.specs.declared.job.SchedWait.{SchedWait as WaitData};

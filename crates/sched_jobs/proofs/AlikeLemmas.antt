@@ -3,18 +3,18 @@ use Rattle.std.proofs.Common.{◌≡◌, ◌≢◌, ℕ, ◌+◌, ◌*◌, ◌<�
 use Rattle.std.proofs.lemmas.Bool.{cases_eq, cases_lt}
 use Rattle.std.proofs.lemmas.List.{get_or-replicate, get_or_past, length-replicate}
 use Rattle.cube_shape.specs.declared.limits.TheConstants.{MAX_BITMAP_DIM}
-use Rattle.wait_queue.specs.declared.nodes.TheConstants.{MAX_SLOTS}
-use Rattle.wait_queue.specs.declared.nodes.QueueNode.{QueueNode as NodeData}
-use Rattle.wait_queue.specs.declared.queues.Queue.{Queue as QueueData}
-use Rattle.wait_queue.specs.Nodes.{estimate_of, key_of, node_at}
-use Rattle.wait_queue.specs.Lists.{Has}
-use Rattle.wait_queue.specs.Queues.{IsQueue}
+use Rattle.sched_jobs.specs.declared.nodes.TheConstants.{MAX_SLOTS}
+use Rattle.sched_jobs.specs.declared.nodes.QueueNode.{QueueNode as NodeData}
+use Rattle.sched_jobs.specs.declared.queues.Queue.{Queue as QueueData}
+use Rattle.sched_jobs.specs.Nodes.{estimate_of, key_of, node_at}
+use Rattle.sched_jobs.specs.Lists.{Has}
+use Rattle.sched_jobs.specs.Queues.{IsQueue}
 use Rattle.sched_law.specs.State.{set}
 use Rattle.sched_law.proofs.SetLemmas.{look, none_is_some, same, set_else, set_here}
 use Rattle.sched_jobs.specs.declared.lines.TheConstants.{CLASSES}
 use Rattle.sched_jobs.specs.Slots.{line_at}
 use Rattle.sched_jobs.specs.Lines.{AreLines, IsOfClass, ShowsLines, count_in, queue_in}
-use Rattle.region_bits.specs.Count.{IsCount}
+use Rattle.alloc_bits.specs.Count.{IsCount}
 use Rattle.sched_jobs.proofs.NumberLemmas.{count_alike, count_none, count_zero, count_with, count_without}
 
 pub no_line : (nodes : List NodeData) (queues : List QueueData) → length nodes ≤ MAX_SLOTS → ((q : ℕ) → q < length queues → IsQueue nodes (queue_in queues q) [])

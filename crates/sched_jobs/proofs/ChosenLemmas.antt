@@ -1,7 +1,7 @@
 -- The first of the waiting jobs in the state.
 use Rattle.std.proofs.Common.{◌≡◌, ℕ, ◌+◌, ◌<◌, ◌≤◌, inl, inr, Option, Some, None, IfSome, IfNone, sym, ◌∙◌, ap, subst, arith}
 use Rattle.cube_shape.specs.declared.limits.TheConstants.{MAX_BITMAP_DIM}
-use Rattle.wait_queue.specs.Nodes.{key_of}
+use Rattle.sched_jobs.specs.Nodes.{key_of}
 use Rattle.sched_law.specs.declared.job.Place.TheVariants.{Waiting}
 use Rattle.sched_law.specs.declared.job.SchedJob.{SchedJob}
 use Rattle.sched_law.specs.declared.job.SchedWait.{SchedWait}

@@ -1,8 +1,8 @@
 -- Counts of slots are counts of jobs.
 use Rattle.std.proofs.Common.{◌≡◌, ◌≢◌, ℕ, ◌+◌, ◌*◌, ◌<◌, ◌≤◌, ◌⊎◌, inl, inr, Some, None, sym, ◌∙◌, ap, subst, arith}
 use Rattle.cube_shape.specs.declared.limits.TheConstants.{MAX_BITMAP_DIM}
-use Rattle.region_bits.specs.Count.{IsCount}
-use Rattle.wait_queue.specs.Nodes.{key_of}
+use Rattle.alloc_bits.specs.Count.{IsCount}
+use Rattle.sched_jobs.specs.Nodes.{key_of}
 use Rattle.sched_law.specs.declared.job.Place.TheVariants.{Waiting}
 use Rattle.sched_law.specs.declared.job.SchedWait.{SchedWait}
 use Rattle.std.proofs.lemmas.Bool.{cases_lt}

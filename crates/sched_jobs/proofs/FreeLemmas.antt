@@ -2,8 +2,8 @@
 use Rattle.std.proofs.Common.{◌≡◌, ◌≢◌, ℕ, zero, suc, ◌+◌, ◌<◌, ◌≤◌, inl, inr, List, [], ◌∷◌, length, replicate, refl, sym, ◌∙◌, ap, subst, arith}
 use Rattle.std.proofs.lemmas.Bool.{cases_eq}
 use Rattle.std.proofs.lemmas.List.{get_or-replicate}
-use Rattle.wait_queue.specs.declared.nodes.QueueNode.{QueueNode as NodeData}
-use Rattle.wait_queue.specs.Nodes.{estimate_of, key_of}
+use Rattle.sched_jobs.specs.declared.nodes.QueueNode.{QueueNode as NodeData}
+use Rattle.sched_jobs.specs.Nodes.{estimate_of, key_of}
 use Rattle.sched_law.specs.declared.job.Place.{Place}
 use Rattle.sched_law.specs.declared.job.Place.TheVariants.{Absent}
 use Rattle.sched_jobs.specs.declared.slots.TheConstants.{MAX_GENERATION}

@@ -1,10 +1,10 @@
 -- The first slots of lines.
 use Rattle.std.proofs.Common.{◌≡◌, ℕ, ◌<◌, inl, inr, List, [], ◌∷◌, Option, Some, None, IfSome, IfNone, refl, sym, subst}
-use Rattle.wait_queue.specs.declared.nodes.QueueNode.{QueueNode as NodeData}
-use Rattle.wait_queue.specs.declared.queues.Queue.{Queue as QueueData}
-use Rattle.wait_queue.specs.Nodes.{estimate_of}
-use Rattle.wait_queue.specs.Lists.{Has, IsRising, first_slot}
-use Rattle.wait_queue.specs.Queues.{HasNoneWithin, IsOldestWithin}
+use Rattle.sched_jobs.specs.declared.nodes.QueueNode.{QueueNode as NodeData}
+use Rattle.sched_jobs.specs.declared.queues.Queue.{Queue as QueueData}
+use Rattle.sched_jobs.specs.Nodes.{estimate_of}
+use Rattle.sched_jobs.specs.Lists.{Has, IsRising, first_slot}
+use Rattle.sched_jobs.specs.Queues.{HasNoneWithin, IsOldestWithin}
 use Rattle.sched_jobs.specs.Lines.{IsLine}
 use Rattle.sched_jobs.specs.Inner.Joins.{IsFirstIn, IsFirstWithin}
 

@@ -13,3 +13,10 @@ pub mod ClassLemmas
 pub mod ChosenLemmas
 pub mod ShowLemmas
 pub mod SumLemmas
+pub mod ListLemmas
+pub mod TreeLemmas
+pub mod FindLemmas
+pub mod PushLemmas
+pub mod RemoveLemmas
+pub mod QueueLemmas
+pub mod FillLemmas

@@ -2,13 +2,13 @@
 use Rattle.std.proofs.Common.{◌≡◌, ◌≢◌, ℕ, ◌<◌, ◌≤◌, inl, inr, List, [], ◌∷◌, ◌++◌, Option, Some, None, length, slice_set, refl, sym, ◌∙◌, ap, subst, arith}
 use Rattle.std.proofs.lemmas.Bool.{cases_eq}
 use Rattle.std.proofs.lemmas.List.{get_or-set_other}
-use Rattle.wait_queue.specs.declared.nodes.TheConstants.{MAX_SLOTS}
-use Rattle.wait_queue.specs.declared.nodes.QueueNode.{QueueNode as NodeData}
-use Rattle.wait_queue.specs.declared.queues.Queue.{Queue as QueueData}
-use Rattle.wait_queue.specs.Nodes.{key_of}
-use Rattle.wait_queue.specs.Lists.{AreApart, Has, IsRising}
-use Rattle.wait_queue.specs.Queues.{CanAppend, HasItem, IsQueue}
-use Rattle.wait_queue.proofs.ListLemmas.{has_cases, has_left, has_right}
+use Rattle.sched_jobs.specs.declared.nodes.TheConstants.{MAX_SLOTS}
+use Rattle.sched_jobs.specs.declared.nodes.QueueNode.{QueueNode as NodeData}
+use Rattle.sched_jobs.specs.declared.queues.Queue.{Queue as QueueData}
+use Rattle.sched_jobs.specs.Nodes.{key_of}
+use Rattle.sched_jobs.specs.Lists.{AreApart, Has, IsRising}
+use Rattle.sched_jobs.specs.Queues.{CanAppend, HasItem, IsQueue}
+use Rattle.sched_jobs.proofs.ListLemmas.{has_cases, has_left, has_right}
 use Rattle.sched_law.specs.State.{set}
 use Rattle.sched_law.proofs.SetLemmas.{none_is_some, same, set_else, set_here}
 use Rattle.sched_jobs.specs.Lines.{AreLines, IsLine, queue_in}

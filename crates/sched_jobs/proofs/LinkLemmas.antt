@@ -1,8 +1,8 @@
 -- A slot leaves the list of free slots, or becomes its first one.
 use Rattle.std.proofs.Common.{◌≡◌, ◌≢◌, ℕ, ◌+◌, ◌<◌, ◌⊎◌, inl, inr, List, [], ◌∷◌, length, refl, sym, ◌∙◌, ap, subst, arith}
 use Rattle.std.proofs.lemmas.Bool.{cases_eq}
-use Rattle.wait_queue.specs.declared.nodes.QueueNode.{QueueNode as NodeData}
-use Rattle.wait_queue.specs.Nodes.{estimate_of, key_of}
+use Rattle.sched_jobs.specs.declared.nodes.QueueNode.{QueueNode as NodeData}
+use Rattle.sched_jobs.specs.Nodes.{estimate_of, key_of}
 use Rattle.sched_law.specs.declared.job.Place.TheVariants.{Absent}
 use Rattle.sched_jobs.specs.declared.slots.TheConstants.{MAX_GENERATION}
 use Rattle.sched_jobs.specs.declared.slots.Slot.{Slot}

@@ -2,11 +2,11 @@
 use Rattle.std.proofs.Common.{◌≡◌, ◌≢◌, ℕ, zero, suc, ◌+◌, ◌<◌, ◌≤◌, ◌⊎◌, inl, inr, Bool, cond, ltb, List, [], ◌∷◌, Option, Some, refl, sym, ◌∙◌, ap, subst, arith}
 use Rattle.std.proofs.lemmas.Bool.{cases_eq, cases_lt, le-ltb, lt-ltb}
 use Rattle.std.proofs.lemmas.List.Sums.{sum_by-cons}
-use Rattle.region_bits.specs.Count.{IsCount}
-use Rattle.wait_queue.specs.declared.nodes.QueueNode.{QueueNode as NodeData}
-use Rattle.wait_queue.specs.declared.queues.Queue.{Queue as QueueData}
-use Rattle.wait_queue.specs.Nodes.{key_of}
-use Rattle.wait_queue.specs.Lists.{Has, IsRising}
+use Rattle.alloc_bits.specs.Count.{IsCount}
+use Rattle.sched_jobs.specs.declared.nodes.QueueNode.{QueueNode as NodeData}
+use Rattle.sched_jobs.specs.declared.queues.Queue.{Queue as QueueData}
+use Rattle.sched_jobs.specs.Nodes.{key_of}
+use Rattle.sched_jobs.specs.Lists.{Has, IsRising}
 use Rattle.sched_law.proofs.SetLemmas.{same}
 use Rattle.sched_jobs.specs.Lines.{IsLine}
 use Rattle.sched_jobs.specs.Inner.Numbers.{HasKeyFrom, HasKeyIn, HasNumbers, IsBelow, counted}

@@ -3,10 +3,10 @@ use Rattle.std.proofs.Common.{◌≡◌, ◌≢◌, ℕ, zero, suc, ◌+◌, ◌
 use Rattle.std.specs.Prelude.{nat_lt, if◌then◌else◌}
 use Rattle.std.proofs.lemmas.Bool.{cases_eq, cases_lt}
 use Rattle.std.proofs.lemmas.List.{get_or_past}
-use Rattle.region_bits.specs.Count.{IsCount}
-use Rattle.wait_queue.specs.declared.nodes.TheConstants.{MAX_SLOTS}
-use Rattle.wait_queue.specs.declared.nodes.QueueNode.{QueueNode as NodeData}
-use Rattle.wait_queue.specs.Nodes.{key_of}
+use Rattle.alloc_bits.specs.Count.{IsCount}
+use Rattle.sched_jobs.specs.declared.nodes.TheConstants.{MAX_SLOTS}
+use Rattle.sched_jobs.specs.declared.nodes.QueueNode.{QueueNode as NodeData}
+use Rattle.sched_jobs.specs.Nodes.{key_of}
 use Rattle.sched_law.specs.declared.job.TheConstants.{NEVER}
 use Rattle.sched_law.specs.declared.job.Place.{Place}
 use Rattle.sched_law.specs.declared.job.Place.TheVariants.{Absent, Waiting, Running}

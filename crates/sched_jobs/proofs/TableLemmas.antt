@@ -1,14 +1,14 @@
 -- Changes of queues in vectors.
 use Rattle.std.proofs.Common.{◌≡◌, ◌≢◌, ℕ, ◌+◌, ◌<◌, ◌≤◌, List, ◌++◌, Option, Some, None, length, take, drop, refl, sym, ◌∙◌, ap, subst}
 use Rattle.cube_shape.specs.declared.limits.TheConstants.{MAX_BITMAP_DIM}
-use Rattle.wait_queue.specs.declared.nodes.QueueNode.{QueueNode as NodeData}
-use Rattle.wait_queue.specs.declared.queues.Queue.{Queue as QueueData}
-use Rattle.wait_queue.specs.Nodes.{key_of}
+use Rattle.sched_jobs.specs.declared.nodes.QueueNode.{QueueNode as NodeData}
+use Rattle.sched_jobs.specs.declared.queues.Queue.{Queue as QueueData}
+use Rattle.sched_jobs.specs.Nodes.{key_of}
 use Rattle.sched_law.specs.State.{set}
 use Rattle.sched_jobs.specs.declared.line_table.LineTable.{LineTable}
 use Rattle.sched_jobs.specs.Slots.{line_at}
 use Rattle.sched_jobs.specs.Lines.{AreLines, HasLines, IsOfClass, ShowsLines, count_in}
-use Rattle.region_bits.specs.Count.{IsCount}
+use Rattle.alloc_bits.specs.Count.{IsCount}
 use Rattle.sched_jobs.specs.Inner.Joins.{CanJoin, MayJoin}
 use Rattle.sched_jobs.proofs.SlotLemmas.{written}
 use Rattle.sched_jobs.proofs.AlikeLemmas.{shown_joined, shown_left}

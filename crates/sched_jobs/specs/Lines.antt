@@ -1,13 +1,13 @@
 -- Queues of waiting slots.
 use Rattle.std.specs.Prelude.{◌≡◌, ℕ, ◌+◌, ◌*◌, ◌<◌, ◌≤◌, List, Option, Some, length, slice_index_or}
 use Rattle.cube_shape.specs.declared.limits.TheConstants.{MAX_BITMAP_DIM}
-use Rattle.region_bits.specs.Count.{IsCount}
-use Rattle.wait_queue.specs.declared.nodes.TheConstants.{MAX_SLOTS}
-use Rattle.wait_queue.specs.declared.nodes.QueueNode.{QueueNode as NodeData}
-use Rattle.wait_queue.specs.declared.queues.Queue.{Queue as QueueData}
-use Rattle.wait_queue.specs.Nodes.{estimate_of, key_of}
-use Rattle.wait_queue.specs.Lists.{Has}
-use Rattle.wait_queue.specs.Queues.{IsQueue}
+use Rattle.alloc_bits.specs.Count.{IsCount}
+use Rattle.sched_jobs.specs.declared.nodes.TheConstants.{MAX_SLOTS}
+use Rattle.sched_jobs.specs.declared.nodes.QueueNode.{QueueNode as NodeData}
+use Rattle.sched_jobs.specs.declared.queues.Queue.{Queue as QueueData}
+use Rattle.sched_jobs.specs.Nodes.{estimate_of, key_of}
+use Rattle.sched_jobs.specs.Lists.{Has}
+use Rattle.sched_jobs.specs.Queues.{IsQueue}
 use Rattle.sched_jobs.specs.declared.lines.TheConstants.{CLASSES}
 use Rattle.sched_jobs.specs.declared.line_table.LineTable.{LineTable}
 use Rattle.sched_jobs.specs.Slots.{line_at}

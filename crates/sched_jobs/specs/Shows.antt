@@ -6,9 +6,9 @@ use Rattle.sched_law.specs.declared.job.Place.TheVariants.{Absent, Waiting}
 use Rattle.sched_law.specs.State.{Sched, Waits}
 use Rattle.sched_law.specs.Policy.{Precedes}
 use Rattle.sched_law.specs.declared.job.SchedWait.{SchedWait}
-use Rattle.wait_queue.specs.declared.nodes.TheConstants.{MAX_SLOTS}
-use Rattle.wait_queue.specs.declared.nodes.QueueNode.{QueueNode as NodeData}
-use Rattle.wait_queue.specs.Nodes.{estimate_of, key_of}
+use Rattle.sched_jobs.specs.declared.nodes.TheConstants.{MAX_SLOTS}
+use Rattle.sched_jobs.specs.declared.nodes.QueueNode.{QueueNode as NodeData}
+use Rattle.sched_jobs.specs.Nodes.{estimate_of, key_of}
 use Rattle.sched_jobs.specs.declared.lines.TheConstants.{CLASSES}
 use Rattle.sched_jobs.specs.declared.slots.TheConstants.{MAX_GENERATION}
 use Rattle.sched_jobs.specs.declared.slots.Slot.{Slot}

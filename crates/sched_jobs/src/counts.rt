@@ -2,14 +2,15 @@
 
 ghost use Rattle.std.specs.Prelude.{◌≡◌, ℕ, ◌*◌, ◌+◌, ◌^◌, ◌<◌, ◌≤◌, List, Option, Some, None, length};
 ghost use Rattle.cube_shape.specs.declared.limits.TheConstants.{MAX_BITMAP_DIM};
-ghost use Rattle.region_bits.specs.Count.{IsCount};
-ghost use Rattle.wait_queue.specs.declared.nodes.QueueNode.{QueueNode as NodeData};
-ghost use Rattle.wait_queue.specs.declared.queues.Queue.{Queue as QueueData};
+ghost use Rattle.alloc_bits.specs.Count.{IsCount};
+ghost use Rattle.sched_jobs.specs.declared.nodes.QueueNode.{QueueNode as NodeData};
+ghost use Rattle.sched_jobs.specs.declared.queues.Queue.{Queue as QueueData};
 ghost use Rattle.sched_jobs.specs.Lines.{AreLines, ShowsLines};
 ghost use Rattle.sched_jobs.specs.Inner.Numbers.{HasKeyFrom, HasNumbers};
 
 use crate::lines::{CLASSES, LINES};
-use wait_queue::{Queue, QueueNode, count_before};
+use crate::nodes::QueueNode;
+use crate::queues::{Queue, count_before};
 
 /// Returns the number of slots with a key below the bound in the lines from `first` on, up to
 /// `end`, which is left out.

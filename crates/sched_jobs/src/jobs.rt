@@ -7,7 +7,7 @@ ghost use Rattle.sched_law.specs.declared.job.Place.TheVariants.{Absent, Waiting
 ghost use Rattle.sched_law.specs.declared.job.SchedWait.{SchedWait as WaitData};
 ghost use Rattle.sched_law.specs.declared.job.SchedRun.{SchedRun as RunData};
 ghost use Rattle.sched_law.specs.State.{Sched, cancel, end_after, finish, initial, pass, set, start, submit};
-ghost use Rattle.region_bits.specs.Count.{IsCount};
+ghost use Rattle.alloc_bits.specs.Count.{IsCount};
 ghost use Rattle.sched_jobs.specs.Counts.{DoesRun, DoesWait, HasKnownEnd, HasNoneUsed, IsNextUsed, WaitsBefore, WaitsUpTo};
 ghost use Rattle.sched_jobs.specs.Sums.{asked};
 ghost use Rattle.sched_jobs.specs.Lines.{HasLines, rank_in, slots_of};
@@ -17,6 +17,7 @@ ghost use Rattle.sched_jobs.specs.Shows.{HasGenerations, HasJob, HasNoneWaiting,
 
 use crate::line_table::LineTable;
 use crate::lines::{CLASSES, DIMS};
+use crate::nodes::MAX_SLOTS;
 use crate::search::Wanted;
 use crate::slots::{
     MAX_GENERATION, Slot, count_known, generation_at, is_present, next_present, place_at,
@@ -26,7 +27,6 @@ use cube_shape::{MAX_BITMAP_DIM, Region};
 use fixed_vec::{FixedVec, Store};
 use sched_law::{Place, SchedJob, SchedRun, SchedWait};
 use std::alloc::AllocError;
-use wait_queue::MAX_SLOTS;
 
 /// The jobs of a scheduler for one thread.
 ///

@@ -1,7 +1,7 @@
 //! What holds of tickets.
 
 ghost use Rattle.std.specs.Prelude.{◌≡◌, ℕ, ◌+◌, ◌*◌, ◌<◌};
-ghost use Rattle.wait_queue.specs.declared.nodes.TheConstants.{MAX_SLOTS as SLOTS};
+ghost use Rattle.sched_jobs.specs.declared.nodes.TheConstants.{MAX_SLOTS as SLOTS};
 
 /// Says that different slots, or generations of a slot, have different tickets. So a ticket names
 /// one job for ever.

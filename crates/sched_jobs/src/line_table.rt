@@ -8,7 +8,7 @@ ghost use Rattle.fixed_vec.specs.Spending.{HasWords, Spends};
 ghost use Rattle.sched_jobs.specs.Lines.{HasLines, count_in, key_in, rank_in, slots_of, table_words};
 ghost use Rattle.sched_jobs.specs.Inner.Joins.{MayJoin};
 ghost use Rattle.sched_jobs.specs.Inner.Put.{HasLink};
-ghost use Rattle.region_bits.specs.Count.{IsCount};
+ghost use Rattle.alloc_bits.specs.Count.{IsCount};
 ghost use Rattle.sched_jobs.specs.Inner.Numbers.{HasKeyFrom, HasNumbers};
 ghost use Rattle.sched_jobs.specs.Inner.Search.{IsChosen};
 
@@ -16,12 +16,13 @@ use crate::counts::{total, total_of_classes};
 use crate::lines::{
     CLASSES, DIMS, LINES, join_line, key_at, leave_line, put_key, put_rank, rank_at,
 };
+use crate::nodes::{MAX_SLOTS, QueueNode};
+use crate::queues::Queue;
 use crate::search::{Wanted, first_of_all};
 use cube_shape::MAX_BITMAP_DIM;
 use fixed_vec::{FixedVec, Store};
 use sched_law::{NEVER, SchedJob};
 use std::alloc::AllocError;
-use wait_queue::{MAX_SLOTS, Queue, QueueNode};
 
 /// A queue for each class and dimension, over one node for each slot.
 #[derive(Drop)]

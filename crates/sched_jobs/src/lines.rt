@@ -1,16 +1,15 @@
 //! Waiting slots in queues, one for each class and dimension.
 
 ghost use Rattle.std.specs.Prelude.{◌≡◌, ◌≢◌, ℕ, ◌+◌, ◌<◌, ◌≤◌, List, Option, Some, None, IfSome, IfNone, length};
-ghost use Rattle.wait_queue.specs.declared.queues.Queue.{Queue as QueueData};
-ghost use Rattle.wait_queue.specs.Nodes.{estimate_of, key_of};
+ghost use Rattle.sched_jobs.specs.declared.queues.Queue.{Queue as QueueData};
+ghost use Rattle.sched_jobs.specs.Nodes.{estimate_of, key_of};
 ghost use Rattle.sched_law.specs.State.{set};
 ghost use Rattle.sched_jobs.specs.Lines.{AreLines};
 ghost use Rattle.sched_jobs.specs.Inner.Joins.{CanJoin, IsFirstIn, IsFirstWithin};
 
+use crate::nodes::QueueNode;
+use crate::queues::{Queue, oldest, oldest_within, push, queues_rest_on_their_slots, remove};
 use cube_shape::MAX_BITMAP_DIM;
-use wait_queue::{
-    Queue, QueueNode, oldest, oldest_within, push, queues_rest_on_their_slots, remove,
-};
 
 /// The number of classes. The class of a job is below it.
 pub const CLASSES: u8 = 8;

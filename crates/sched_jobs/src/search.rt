@@ -10,8 +10,9 @@ ghost use Rattle.sched_jobs.specs.Lines.{AreLines, ShowsLines};
 ghost use Rattle.sched_jobs.specs.Inner.Search.{IsChosen, IsFit, IsFitIn, IsLeast, IsOlder, IsWantedAt};
 
 use crate::lines::{CLASSES, DIMS, first_in_line, first_within, key_at};
+use crate::nodes::QueueNode;
+use crate::queues::Queue;
 use cube_shape::MAX_BITMAP_DIM;
-use wait_queue::{Queue, QueueNode};
 
 /// The jobs that a search looks for.
 #[derive(Clone, Copy)]

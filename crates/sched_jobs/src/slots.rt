@@ -8,10 +8,10 @@ ghost use Rattle.sched_jobs.specs.Inner.Put.{HasPut, slot_for};
 ghost use Rattle.sched_jobs.specs.Counts.{HasNoneIn, IsNextIn};
 ghost use Rattle.sched_jobs.specs.Sums.{one_known};
 
+use crate::nodes::{MAX_SLOTS, QueueNode};
 use cube_shape::Region;
 use fixed_vec::FixedVec;
 use sched_law::{NEVER, Place, SchedJob, SchedRun, SchedWait};
-use wait_queue::{MAX_SLOTS, QueueNode};
 
 /// The most jobs that a slot may have.
 pub const MAX_GENERATION: u64 = (1 << 40) - 1;

@@ -5,3 +5,7 @@ pub mod SafeLemmas
 pub mod LawLemmas
 pub mod EndLemmas
 pub mod OneLemmas
+pub mod DecideLemmas
+pub mod TeamLemmas
+pub mod OutcomeLemmas
+pub mod CloseLemmas

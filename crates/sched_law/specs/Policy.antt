@@ -3,7 +3,7 @@ use Rattle.std.specs.Prelude.{◌≡◌, ◌≢◌, ℕ, ◌+◌, ◌-◌, ◌*�
 use Rattle.cube_shape.specs.declared.region.Region.{Region}
 use Rattle.cube_shape.specs.Region.{AreApart, Covers, IsAligned, block}
 use Rattle.cube_shape.specs.Falling.{IsHeld}
-use Rattle.region_bits.specs.Count.{IsCount}
+use Rattle.alloc_bits.specs.Count.{IsCount}
 use Rattle.fit_tree.specs.Halves.{lower_half, upper_half}
 use Rattle.sched_law.specs.declared.job.TheConstants.{NEVER}
 use Rattle.sched_law.specs.declared.job.SchedJob.{SchedJob}

@@ -1,8 +1,8 @@
 -- What calls on a board answer, and the deeds of each answer.
 use Rattle.std.proofs.Common.{◌≡◌, ℕ, Bool, Option, Some, None, Result, Ok, Err, IfOk, IfErr, IfSome, IfNone, IsTrue, IsFalse, List, [], ◌∷◌, sym, ap, subst}
-use Rattle.sched_team.specs.Team.{Deed}
-use Rattle.sched_team.specs.Team.Deed.{cancels, closes, occupies, submits, vacates}
-use Rattle.sched_request.specs.declared.request.JobRequest.{JobRequest}
+use Rattle.sched_law.specs.Team.{Deed}
+use Rattle.sched_law.specs.Team.Deed.{cancels, closes, occupies, submits, vacates}
+use Rattle.sched_core.specs.declared.request.JobRequest.{JobRequest}
 use Rattle.sched_core.specs.declared.scheduler.Core.{Core}
 use Rattle.sched_core.specs.Shows.{ShowsCore, job_arrival}
 use Rattle.sched_board.specs.declared.board.JobBoard.{JobBoard}

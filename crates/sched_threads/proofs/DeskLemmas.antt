@@ -4,10 +4,10 @@ use Rattle.std.specs.List.{refill, slice_index_or}
 use Rattle.std.proofs.Math.Seq.{take-append_seam}
 use mathlib.Core.Logic.{dite}
 use native.Mathlib.Decide.{ℕ_discrete}
-use Rattle.sched_pool.specs.declared.workers.TheConstants.{MAX_WORKERS}
-use Rattle.sched_pool.specs.declared.workers.PoolWorker.{PoolWorker}
-use Rattle.sched_pool.specs.declared.workers.PoolWorker.TheVariants.{Away, Busy, Waiting}
-use Rattle.sched_pool.specs.Pool.{worker_in, workers_of}
+use Rattle.sched_board.specs.declared.workers.TheConstants.{MAX_WORKERS}
+use Rattle.sched_board.specs.declared.workers.PoolWorker.{PoolWorker}
+use Rattle.sched_board.specs.declared.workers.PoolWorker.TheVariants.{Away, Busy, Waiting}
+use Rattle.sched_board.specs.Pool.{worker_in, workers_of}
 use Rattle.sched_board.specs.declared.board.JobBoard.{JobBoard}
 use Rattle.sched_board.specs.JobBoard.{IsServed, Serves}
 use Rattle.sched_threads.specs.declared.chair.Chair.{Chair}

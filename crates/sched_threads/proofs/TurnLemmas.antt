@@ -1,7 +1,7 @@
 -- Each sequence of turns is a history of deeds.
 use Rattle.std.proofs.Common.{◌≡◌, ℕ, Option, Some, None, IfSome, List, [], ◌∷◌, ◌++◌, sym, refl, ap, ◌∙◌, subst}
-use Rattle.sched_pool.specs.Pool.{workers_of}
-use Rattle.sched_team.specs.Team.{Deed, IsHistory, May, Team, after, team_of}
+use Rattle.sched_board.specs.Pool.{workers_of}
+use Rattle.sched_law.specs.Team.{Deed, IsHistory, May, Team, after, team_of}
 use Rattle.sched_board.specs.declared.board.JobBoard.{JobBoard}
 use Rattle.sched_board.proofs.FollowLemmas.{at_follows}
 use Rattle.sched_threads.specs.Desk.{DeskData}

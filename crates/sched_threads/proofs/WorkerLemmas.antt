@@ -1,8 +1,8 @@
 -- What calls of workers answer, and the turns that they make.
 use Rattle.std.proofs.Common.{◌≡◌, ◌≢◌, ℕ, ◌<◌, ◌≤◌, ◌⊎◌, max, Option, Some, None, Result, Ok, Err, IfOk, IfErr, IfSome, IfNone, List, length, sym, refl, ap, subst, arith}
 use Rattle.std.proofs.Math.Nat.{le-max_right}
-use Rattle.sched_pool.specs.declared.workers.PoolWorker.{PoolWorker}
-use Rattle.sched_pool.specs.Pool.{worker_in, workers_of}
+use Rattle.sched_board.specs.declared.workers.PoolWorker.{PoolWorker}
+use Rattle.sched_board.specs.Pool.{worker_in, workers_of}
 use Rattle.sched_board.specs.declared.board.JobBoard.{JobBoard}
 use Rattle.sched_board.specs.declared.serving.WorkerStage.{WorkerStage}
 use Rattle.sched_board.specs.declared.serving.WorkerStage.TheVariants.{Asked as Waits, Has as Works}

@@ -1,6 +1,6 @@
 -- What calls on a shared scheduler do: each makes one turn.
 use Rattle.std.specs.Prelude.{max, ◌≡◌, ◌≢◌, ℕ, ◌<◌, ◌⊎◌, Option, Result, Some, None, Ok, Err, [], ◌∷◌, IfSome, IfNone}
-use Rattle.sched_pool.specs.Pool.{worker_in, workers_of}
+use Rattle.sched_board.specs.Pool.{worker_in, workers_of}
 use Rattle.sched_board.specs.declared.serving.Served.{Served}
 use Rattle.sched_board.specs.declared.serving.WorkerStage.TheVariants.{Asked as Waits, Has as Works}
 use Rattle.sched_board.specs.declared.board.JobBoard.{JobBoard}

@@ -1,9 +1,9 @@
 -- The board with what each worker's thread knows.
 use Rattle.std.specs.Prelude.{◌≡◌, ◌≢◌, ℕ, ◌≤◌, List, length, slice_index_or}
-use Rattle.sched_pool.specs.declared.workers.TheConstants.{MAX_WORKERS}
-use Rattle.sched_pool.specs.declared.workers.PoolWorker.{PoolWorker}
-use Rattle.sched_pool.specs.declared.workers.PoolWorker.TheVariants.{Away, Busy, Waiting}
-use Rattle.sched_pool.specs.Pool.{worker_in, workers_of}
+use Rattle.sched_board.specs.declared.workers.TheConstants.{MAX_WORKERS}
+use Rattle.sched_board.specs.declared.workers.PoolWorker.{PoolWorker}
+use Rattle.sched_board.specs.declared.workers.PoolWorker.TheVariants.{Away, Busy, Waiting}
+use Rattle.sched_board.specs.Pool.{worker_in, workers_of}
 use Rattle.sched_board.specs.declared.board.JobBoard.{JobBoard}
 use Rattle.sched_board.specs.declared.serving.WorkerStage.{WorkerStage}
 use Rattle.sched_board.specs.declared.serving.WorkerStage.TheVariants.{Out as IsOut, Asked as Waits, Has as Works}

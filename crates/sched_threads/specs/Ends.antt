@@ -1,6 +1,6 @@
 -- What holds at the end of the table.
 use Rattle.std.specs.Prelude.{◌≡◌, List}
-use Rattle.sched_team.specs.Team.{Deed, IsHistory, team_of}
+use Rattle.sched_law.specs.Team.{Deed, IsHistory, team_of}
 use Rattle.sched_board.specs.declared.board.JobBoard.{JobBoard}
 use Rattle.sched_threads.specs.Desk.{DeskData}
 use Rattle.sched_threads.specs.declared.clocked.ClockedDesk.{ClockedDesk}

@@ -11,5 +11,5 @@ pub mod Ends
 pub mod Calls
 pub mod Looks
 pub mod EndCalls
-pub use Rattle.sched_pool.specs.Pool.{worker_in, workers_of}
+pub use Rattle.sched_board.specs.Pool.{worker_in, workers_of}
 pub use Rattle.sched_board.specs.JobBoard.{IsFresh}

@@ -7,8 +7,8 @@ use lib.ListN.{get_elem?}
 use Rattle.atomic_table.specs.Table.{State}
 use Rattle.ghost_history.specs.History.{Legal}
 use Rattle.ghost_history.specs.Sums.{total}
-use Rattle.sched_pool.specs.Pool.{workers_of}
-use Rattle.sched_team.specs.Team.{Deed}
+use Rattle.sched_board.specs.Pool.{workers_of}
+use Rattle.sched_law.specs.Team.{Deed}
 use Rattle.sched_threads.specs.declared.clocked.ClockedDesk.{ClockedDesk}
 use Rattle.sched_board.specs.declared.sizes.ThreadSizes.{ThreadSizes}
 use Rattle.sched_board.specs.JobBoard.{FollowsAt, IsFresh}

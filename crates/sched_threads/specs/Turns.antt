@@ -1,10 +1,10 @@
 -- What a turn does, and what its call answers.
 use Rattle.std.specs.Prelude.{◌≡◌, ℕ, Bool, Option, Some, None, Result, Ok, Err, List, [], ◌∷◌, IfSome, IfNone, IsNone, IsTrue, IsFalse}
-use Rattle.sched_pool.specs.declared.workers.PoolWorker.TheVariants.{Away, Busy, Waiting}
-use Rattle.sched_pool.specs.Pool.{worker_in, workers_of}
+use Rattle.sched_board.specs.declared.workers.PoolWorker.TheVariants.{Away, Busy, Waiting}
+use Rattle.sched_board.specs.Pool.{worker_in, workers_of}
 use Rattle.sched_board.specs.declared.board.JobBoard.{JobBoard}
-use Rattle.sched_team.specs.Team.{Deed}
-use Rattle.sched_team.specs.Team.Deed.{closes, occupies, vacates}
+use Rattle.sched_law.specs.Team.{Deed}
+use Rattle.sched_law.specs.Team.Deed.{closes, occupies, vacates}
 use Rattle.sched_board.specs.declared.board.BoardPhase.TheVariants.{Stopped}
 use Rattle.sched_board.specs.declared.woken.TheConstants.{MOST_WOKEN}
 use Rattle.sched_board.specs.declared.calls.BlockError.{BlockError}
@@ -15,7 +15,7 @@ use Rattle.sched_board.specs.declared.calls.SubmitError.{SubmitError}
 use Rattle.sched_board.specs.declared.serving.Served.{Served}
 use Rattle.sched_board.specs.declared.serving.WorkerStage.{WorkerStage}
 use Rattle.sched_board.specs.declared.serving.WorkerStage.TheVariants.{Asked}
-use Rattle.sched_request.specs.declared.request.JobRequest.{JobRequest}
+use Rattle.sched_core.specs.declared.request.JobRequest.{JobRequest}
 use Rattle.sched_board.specs.JobBoard.{FollowsAt, IsAtRest, IsClosed, IsUnchanged, Leads, Serves, NamesWoken, phase_after}
 use Rattle.sched_board.specs.Served.{HasNoneWaiting, IsCancelled, IsNotCancelled, IsNotPutBack, IsNotTakenOut, IsOver, IsRefusal, IsStart, IsSubmitted, IsTakenBack, NamesOthers, block_at, deeds_of, deeds_to_stop}
 

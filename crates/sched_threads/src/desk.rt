@@ -2,8 +2,8 @@
 
 ghost use Rattle.std.specs.Prelude.{◌≡◌, ◌≢◌, ℕ, ◌<◌, ◌≤◌, Some, length, slice_index_or, IfOk, IfErr, IfSome, IfNone};
 ghost use Rattle.cube_shape.specs.declared.limits.TheConstants.{MAX_BITMAP_DIM};
-ghost use Rattle.sched_pool.specs.declared.workers.TheConstants.{MAX_WORKERS};
-ghost use Rattle.sched_pool.specs.Pool.{workers_of};
+ghost use Rattle.sched_board.specs.declared.workers.TheConstants.{MAX_WORKERS};
+ghost use Rattle.sched_board.specs.Pool.{workers_of};
 ghost use Rattle.sched_board.specs.JobBoard.{IsFresh};
 ghost use Rattle.sched_board.specs.declared.serving.WorkerStage.TheVariants.{Asked as Waits, Has as Works};
 ghost use Rattle.sched_threads.specs.declared.chair.Chair.TheVariants.{Free, Out, Asked, Has};

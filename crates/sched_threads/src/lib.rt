@@ -3,7 +3,7 @@
 //!
 //! A call that finds the lock taken does nothing, and says so. Each other call makes one *turn*: it
 //! changes what the threads share from one state to another. The turns of all threads form one
-//! sequence, and each is made of deeds of `sched_team`.
+//! sequence, and each is made of deeds of `sched_law`.
 #![tactic(auto)]
 
 mod block_calls;

@@ -1,7 +1,7 @@
 //! How threads cease to be workers.
 
 ghost use Rattle.std.specs.Prelude.{◌≡◌, ◌≢◌, ◌<◌, ◌⊎◌, ◌↔◌, Some, None, IfOk, IfErr, IfSome, IfNone, IsTrue};
-ghost use Rattle.sched_pool.specs.Pool.{worker_in, workers_of};
+ghost use Rattle.sched_board.specs.Pool.{worker_in, workers_of};
 ghost use Rattle.sched_board.specs.Served.{FitsStage};
 ghost use Rattle.sched_threads.specs.declared.chair.Chair.TheVariants.{Free};
 ghost use Rattle.sched_threads.specs.Desk.{HasOtherChairs, HasUnseen, IsSameDesk, chair_of, stage_of, stage_to_end};

@@ -2,7 +2,7 @@
 
 ghost use Rattle.std.specs.Prelude.{◌≡◌, ◌≤◌, IfErr, IfOk, IfSome};
 ghost use Rattle.cube_shape.specs.declared.limits.TheConstants.{MAX_BITMAP_DIM};
-ghost use Rattle.sched_pool.specs.declared.workers.TheConstants.{MAX_WORKERS};
+ghost use Rattle.sched_board.specs.declared.workers.TheConstants.{MAX_WORKERS};
 ghost use Rattle.sched_threads.specs.Turns.{IsCancelAnswer, IsSubmitAnswer};
 
 use crate::desk::Desk;

@@ -1,4 +1,4 @@
-//! A caller of `shop_threads`, `cube_ledger` and `floor_tree`.
+//! A caller of `dispatcher_threads`, `cube_ledger` and `floor_tree`.
 
 ghost use Rattle.std.specs.Prelude.{◌≡◌, ℕ, ◌^◌, ◌<◌, [], IfSome, map, length, slice_index_or};
 ghost use Rattle.std.specs.List.{All};
@@ -11,10 +11,10 @@ ghost use Rattle.uses.specs.Processors.{processors_in};
 
 use cube_ledger::Ledger;
 use dispatcher::{Finished, Runner, ShopSizes};
+use dispatcher_threads::{RunEnd, answer_all};
 use floor_tree::{FreeMachine, TreeFloor};
 use job_types::Job;
 use line_ruled::RuledLine;
-use shop_threads::{RunEnd, answer_all};
 use std::alloc::Global;
 use std::collections::VecDeque;
 use std::sync::Wait;

@@ -5,12 +5,12 @@
 
 mod answering;
 mod any_floor;
+mod batch;
 mod count;
 mod counting;
 mod extent;
 mod hoarding;
 pub mod line_run;
-mod on_bitmaps;
 mod room;
 mod schedule;
 mod subcubes;
@@ -21,11 +21,11 @@ mod whole;
 
 pub use answering::answer_and_count;
 pub use any_floor::hold_pair;
+pub use batch::answer_all;
 pub use count::count_jobs;
 pub use counting::Counting;
 pub use extent::{Extent, share_extent};
 pub use hoarding::Hoarding;
-pub use on_bitmaps::answer_on_bitmaps;
 pub use room::has_room;
 pub use schedule::play;
 pub use subcubes::{hold_two, hold_two_and_close};

@@ -1,10 +1,14 @@
-//! A caller of `cubejobs`, which uses no other crate of this repository.
+//! A caller of the whole dispatcher.
 
 ghost use Rattle.std.specs.Prelude.{ℕ, ◌^◌, ◌<◌, [], IfSome, map, length, slice_index_or};
 ghost use Rattle.std.specs.List.{All};
-ghost use Rattle.cubejobs.specs.{AreInOrder, IsFor};
+ghost use Rattle.dispatcher.specs.Order.{AreInOrder};
+ghost use Rattle.job_queue.specs.Line.{IsFor};
 
-use cubejobs::{Job, Plain, Reply, RunEnd, ShopSizes, answer_all, sorted_replies};
+use crate::batch::answer_all;
+use dispatcher::{Plain, ShopSizes, sorted_replies};
+use dispatcher_threads::RunEnd;
+use job_types::{Job, Reply};
 use std::alloc::Global;
 use std::collections::VecDeque;
 use std::sync::Wait;

@@ -1,10 +1,10 @@
 -- What is returned for a dispatcher that has not run all jobs.
 use Rattle.std.specs.Prelude.{Option, Some, None, Result, Ok, Err}
-use Rattle.shop_threads.specs.declared.answering.StopReason.{StopReason}
-use Rattle.shop_threads.specs.declared.answering.StopReason.TheVariants as why
-use Rattle.shop_threads.specs.declared.answering.RunError.{RunError}
-use Rattle.shop_threads.specs.declared.answering.RunError.TheVariants as stopped
-use Rattle.shop_threads.specs.declared.running.RunEnd.{RunEnd}
+use Rattle.dispatcher_threads.specs.declared.answering.StopReason.{StopReason}
+use Rattle.dispatcher_threads.specs.declared.answering.StopReason.TheVariants as why
+use Rattle.dispatcher_threads.specs.declared.answering.RunError.{RunError}
+use Rattle.dispatcher_threads.specs.declared.answering.RunError.TheVariants as stopped
+use Rattle.dispatcher_threads.specs.declared.running.RunEnd.{RunEnd}
 use Rattle.jobs_csv.specs.declared.fault.Fault.{Fault}
 use Rattle.jobs_csv.specs.declared.fault.FaultKind.{FaultKind}
 use Rattle.jobs_csv.specs.declared.fault.FaultKind.TheVariants as what

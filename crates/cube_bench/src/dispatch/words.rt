@@ -10,10 +10,8 @@ const DIM: u32 = 10;
 /// A choice of the queue and the allocator.
 #[derive(Clone, Copy)]
 pub(crate) enum ShopName {
-    /// The lock-free queue, and the tree of status words.
+    /// The lock-free queue and the lock-free allocator.
     Free,
-    /// The lock-free queue, and the tree of bitmaps.
-    Bitmaps,
     /// The queue and the allocator under one lock each.
     Locked,
 }
@@ -35,7 +33,6 @@ pub(crate) struct Invocation {
 fn shop_named(name: &str) -> Option<ShopName> {
     match name {
         "free" => Some(ShopName::Free),
-        "bitmaps" => Some(ShopName::Bitmaps),
         "locked" => Some(ShopName::Locked),
         _ => None,
     }

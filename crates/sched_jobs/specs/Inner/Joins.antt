@@ -1,8 +1,8 @@
 -- Changes of lines, and their first slots.
 use Rattle.std.specs.Prelude.{◌≡◌, ◌≢◌, ℕ, ◌<◌, ◌≤◌, List, Option, Some, None}
-use Rattle.wait_queue.specs.declared.nodes.QueueNode.{QueueNode as NodeData}
-use Rattle.wait_queue.specs.declared.queues.Queue.{Queue as QueueData}
-use Rattle.wait_queue.specs.Nodes.{estimate_of, key_of}
+use Rattle.sched_jobs.specs.declared.nodes.QueueNode.{QueueNode as NodeData}
+use Rattle.sched_jobs.specs.declared.queues.Queue.{Queue as QueueData}
+use Rattle.sched_jobs.specs.Nodes.{estimate_of, key_of}
 use Rattle.sched_jobs.specs.declared.line_table.LineTable.{LineTable}
 use Rattle.sched_jobs.specs.Lines.{AreLines, HasLines, key_in}
 

@@ -1,8 +1,8 @@
 -- Counts of slots in lines, by their keys.
 use Rattle.std.specs.Prelude.{◌≡◌, ℕ, ◌<◌, ◌≤◌, List, Option, Some, None, nat_lt}
 use Rattle.std.specs.List.{count_by}
-use Rattle.wait_queue.specs.declared.nodes.QueueNode.{QueueNode as NodeData}
-use Rattle.wait_queue.specs.Nodes.{key_of}
+use Rattle.sched_jobs.specs.declared.nodes.QueueNode.{QueueNode as NodeData}
+use Rattle.sched_jobs.specs.Nodes.{key_of}
 
 -- The number is below the bound, if there is one.
 abbrev pub IsBelow : Option ℕ → ℕ → Type 0

@@ -2,10 +2,10 @@
 ghost use Rattle.std.specs.Prelude.{◌≡◌, ◌≤◌};
 ghost use Rattle.bitmap_tree.specs.Handles.{dim_of, permits_of, IsHeldOf};
 
-use crate::trial::is_fresh;
 use bitmap_tree::{BitmapTree, HeldBlock, MAX_BITMAP_DIM, Region};
 use std::alloc::Global;
 use std::process::Abort;
+use tests_kit::is_fresh;
 
 /// Opens a machine, for which there has to be memory.
 pub(crate) fn opened(rt: &impl Abort, alloc: Global, n: u32) -> BitmapTree

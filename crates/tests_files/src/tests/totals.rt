@@ -8,14 +8,13 @@ use crate::tests::facts::expect_true;
 use crate::tests::failing_devices::push;
 use crate::tests::jobs::replies_to;
 use cli_commands::report_rows;
-use cube_ledger::{Ledger, Slip, Totals};
-use cube_occupancy::{FREE_PLACES, Occupancy, occupancy};
+use cube_ledger::{FREE_PLACES, Ledger, Occupancy, Slip, Totals, occupancy};
 use cube_shape::{MAX_DIM, Region};
 use dispatcher::Finished;
-use floor_locked::LockedFloor;
 use floors::Floor;
 use job_types::{JobId, Kind, Op, Reply};
 use jobs_csv::ReportRow;
+use locked_peers::LockedFloor;
 use std::alloc::{AllocError, Global};
 use std::process::Abort;
 

@@ -1,7 +1,7 @@
 //! The calls, for tests that look at what they return.
 ghost use Rattle.std.specs.Prelude.{◌≡◌, ◌<◌};
 
-use job_lanes::{Lane, LaneJob, Lanes, Looked, Submitted, Taken, TakenAny, Worker};
+use lanes::{Lane, LaneJob, Lanes, Looked, Submitted, Taken, TakenAny, Worker};
 
 pub fn put(lanes: &Lanes, lane: &mut Lane, payload: u64, dim: u32) -> Submitted
     requires { lane.old.id ≡ lanes.now }

@@ -3,7 +3,7 @@ ghost use Rattle.std.specs.Prelude.{◌≡◌};
 
 use super::calls::{job, look, put, take, take_any};
 use super::made;
-use job_lanes::{Lane, Lanes, Looked, MAX_CAPACITY, Sizes, Submitted, Taken, TakenAny, Worker};
+use lanes::{Lane, Lanes, Looked, MAX_CAPACITY, Sizes, Submitted, Taken, TakenAny, Worker};
 use std::alloc::Global;
 use std::process::Abort;
 

@@ -8,9 +8,9 @@ ghost use Rattle.job_queue.specs.Line.{IsFor};
 
 use crate::line_run::member::{CloserSlot, Feeder, Naming, Taker};
 use crate::line_run::pair::{both, two_of};
+use dispatcher_threads::SharedLine;
 use job_queue::{JobLine, Opened, QueuedJob, Rest};
 use job_types::Job;
-use shop_threads::SharedLine;
 use std::alloc::Global;
 use std::collections::VecDeque;
 use std::marker::Brand;

@@ -2,7 +2,7 @@
 use Rattle.std.proofs.Common.{◌≡◌, ℕ, ◌+◌, ◌/◌, ◌%◌, ◌^◌, ◌<◌, ◌≤◌, inl, inr, length, slice_index, rules, arith, sym, subst, ◌∙◌}
 use Rattle.std.proofs.lemmas.Bool.{cases_lt}
 use Rattle.cube_shape.specs.Region.{block}
-use Rattle.region_bits.specs.Count.{IsCount}
+use Rattle.alloc_bits.specs.Count.{IsCount}
 use Rattle.bitmap_occupancy.proofs.CountLemmas.{set_counted, set_few, set_past}
 use Rattle.bitmap_occupancy.proofs.RunLemmas.{ends_more, ends_same, none_later, EndsNone}
 use Rattle.bitmap_occupancy.specs.Occupancy.{IsFreeAt}

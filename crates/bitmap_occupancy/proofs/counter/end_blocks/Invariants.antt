@@ -1,7 +1,7 @@
 -- The dimensions so far have their counts, and the others those that they had.
 use Rattle.std.proofs.Common.{◌≡◌, ℕ, ◌+◌, ◌/◌, ◌^◌, ◌<◌, ◌≤◌, List, length, slice_index}
 use Rattle.cube_shape.specs.Region.{block}
-use Rattle.region_bits.specs.Count.{IsCount}
+use Rattle.alloc_bits.specs.Count.{IsCount}
 use Rattle.bitmap_occupancy.specs.InnerRuns.{AreCounted, IsRun}
 use Rattle.bitmap_occupancy.specs.Occupancy.{IsFreeAt}
 use Rattle.bitmap_occupancy.specs.declared.summary.TheConstants.{FREE_PLACES}

@@ -1,6 +1,6 @@
 use Rattle.std.proofs.Common.{IfSome, Result, sym, subst}
 use Rattle.jobs_csv.specs.Jobs.{parse_jobs}
-use Rattle.shop_threads.specs.declared.running.RunEnd.{RunEnd}
+use Rattle.dispatcher_threads.specs.declared.running.RunEnd.{RunEnd}
 use Rattle.cli_commands.specs.FileRun.{ReturnsRun}
 use Rattle.cli_commands.specs.declared.shop.AnswerError.{AnswerError}
 use Rattle.cli_commands.proofs.RunLemmas.{fault_unanswered, where_known}

@@ -4,7 +4,7 @@ use Rattle.std.proofs.lemmas.List.{get_or-set_other, get_or-set_same, length-set
 use Rattle.std.proofs.lemmas.Bool.{cases_eq}
 use Rattle.cube_shape.specs.Region.{block}
 use Rattle.cube_shape.specs.Machine.{IsFree}
-use Rattle.region_bits.specs.Count.{IsCount}
+use Rattle.alloc_bits.specs.Count.{IsCount}
 use Rattle.cubejobs_fit.specs.Answers.{held_of}
 use Rattle.cubejobs_fit.proofs.occupancy.free_of.Goals as goal
 

@@ -2,8 +2,8 @@ use Rattle.std.proofs.Common.{◌++◌, ◌∷◌, [], refl, sym, ap, subst, ◌
 use Rattle.std.specs.List.{All}
 use Rattle.std.proofs.lemmas.List.Elements.{All-rest}
 use Rattle.cubejobs_lanes.specs.Ending.{kept_workers, IsWorkerIn}
-use Rattle.kept_places.specs.declared.kept.KeptWorker.{KeptWorker}
-use Rattle.kept_places.proofs.PlaceLemmas.{goes_over}
+use Rattle.cubejobs_lanes.specs.declared.kept.KeptWorker.{KeptWorker}
+use Rattle.cubejobs_lanes.proofs.PlaceLemmas.{goes_over}
 use Rattle.cubejobs_lanes.proofs.ending.gather_workers.Goals as goal
 
 pub loop-place-init : goal.loop-place-init

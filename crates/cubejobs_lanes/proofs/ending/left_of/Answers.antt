@@ -1,8 +1,8 @@
 use Rattle.std.proofs.Common.{◌∙◌, ◌++◌, ap, length}
-use Rattle.kept_places.specs.declared.kept.KeptLane.{KeptLane}
-use Rattle.kept_places.specs.declared.kept.KeptWorker.{KeptWorker}
+use Rattle.cubejobs_lanes.specs.declared.kept.KeptLane.{KeptLane}
+use Rattle.cubejobs_lanes.specs.declared.kept.KeptWorker.{KeptWorker}
 use Rattle.cubejobs_lanes.specs.Ending.{kept_lanes, kept_workers}
-use Rattle.kept_places.proofs.PlaceLemmas.{kept_count}
+use Rattle.cubejobs_lanes.proofs.PlaceLemmas.{kept_count}
 use Rattle.cubejobs_lanes.proofs.ending.left_of.Goals as goal
 
 pub into_rest-requires-clause-lanes : goal.into_rest-requires-clause-lanes

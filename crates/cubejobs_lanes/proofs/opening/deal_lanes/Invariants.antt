@@ -1,6 +1,6 @@
 use Rattle.std.proofs.Common.{◌≡◌, ◌≤◌, length}
 use Rattle.std.specs.Vec.{vec_capacity}
-use Rattle.kept_places.specs.Kept.{HasFreshLanes}
+use Rattle.cubejobs_lanes.specs.Kept.{HasFreshLanes}
 use Rattle.cubejobs_lanes.proofs.opening.deal_lanes.Given as goal
 
 abbrev pub invariant-loop : goal.invariant-loop

@@ -1,7 +1,7 @@
 -- The partners are those that `step` returns, of the shape that the number names.
 use Rattle.std.proofs.Common.{◌≡◌, ℕ, ◌↔◌, Option, Some, sym, subst}
 use Rattle.collectives.specs.declared.shape.Shape.{Shape}
-use Rattle.rank_steps.specs.Steps.{IsListed, message}
+use Rattle.collectives.specs.Steps.{IsListed, message}
 use Rattle.cubejobs_rounds.specs.Rounds.{rank_in}
 use Rattle.cubejobs_rounds.proofs.exports.cubejobs_step.Goals as goal
 

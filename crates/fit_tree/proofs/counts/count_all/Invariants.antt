@@ -1,6 +1,6 @@
 -- The levels so far are counted, and the other counts are 0.
 use Rattle.std.proofs.Common.{◌≡◌, ℕ, ◌-◌, ◌^◌, ◌<◌, ◌≤◌, slice_index}
-use Rattle.region_bits.specs.Count.{IsCount}
+use Rattle.alloc_bits.specs.Count.{IsCount}
 use Rattle.fit_tree.proofs.MaximalLemmas.{MaximalIn}
 use Rattle.fit_tree.proofs.counts.count_all.Given as goal
 

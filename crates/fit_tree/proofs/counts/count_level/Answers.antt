@@ -1,7 +1,7 @@
 -- As many nodes are counted as the level has, at most.
 use Rattle.std.proofs.Common.{◌≡◌, ◌+◌, ◌-◌, ◌*◌, ◌%◌, ◌^◌, subst, arith}
 use Rattle.std.proofs.lemmas.Nat.{one_shl}
-use Rattle.region_bits.specs.Count.{IsCount}
+use Rattle.alloc_bits.specs.Count.{IsCount}
 use Rattle.fit_tree.specs.InnerNodes.{Weighs}
 use Rattle.fit_tree.specs.Image.{IsMaximal}
 use Rattle.fit_tree.proofs.CountLemmas.{count_bound, count_more, count_nothing}

@@ -1,6 +1,6 @@
 -- The nodes of the level so far are counted.
 use Rattle.std.proofs.Common.{◌-◌, ◌^◌}
-use Rattle.region_bits.specs.Count.{IsCount}
+use Rattle.alloc_bits.specs.Count.{IsCount}
 use Rattle.fit_tree.proofs.MaximalLemmas.{MaximalIn}
 use Rattle.fit_tree.proofs.counts.count_level.Given as goal
 

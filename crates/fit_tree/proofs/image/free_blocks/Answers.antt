@@ -2,7 +2,7 @@
 use Rattle.std.proofs.Common.{◌≡◌, ◌+◌, ◌-◌, ◌^◌, suc, sym, subst, ap, ◌∙◌, arith}
 use Rattle.cube_shape.specs.Region.{block}
 use Rattle.cube_shape.specs.Machine.{IsFree}
-use Rattle.region_bits.specs.Count.{IsCount}
+use Rattle.alloc_bits.specs.Count.{IsCount}
 use Rattle.fit_tree.specs.Fit.{held_in}
 use Rattle.fit_tree.specs.Image.{fit_in}
 use Rattle.fit_tree.proofs.FreeLemmas.{free_counted, open_count, open_small}

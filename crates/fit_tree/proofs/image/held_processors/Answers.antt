@@ -5,7 +5,7 @@ use Rattle.cube_shape.specs.declared.limits.TheConstants.{MAX_BITMAP_DIM}
 use Rattle.cube_shape.specs.Region.{block}
 use Rattle.cube_shape.specs.Falling.{IsHeld}
 use Rattle.cube_shape.specs.Machine.{IsFree}
-use Rattle.region_bits.specs.Count.{IsCount}
+use Rattle.alloc_bits.specs.Count.{IsCount}
 use Rattle.fit_tree.specs.Fit.{held_in}
 use Rattle.fit_tree.specs.Image.{fit_in}
 use Rattle.fit_tree.proofs.CountLemmas.{count_bound}

@@ -1,7 +1,7 @@
 use Rattle.std.proofs.Common.{false, ap, length, ◌∙◌, refl}
 use Rattle.sched_law.specs.State.{set}
-use Rattle.block_trees.specs.Ends.{AreEnds, HasNoEndBeside}
-use Rattle.block_trees.specs.Busy.{AreBusy, HasNoneBeside}
+use Rattle.sched_blocks.specs.Ends.{AreEnds, HasNoEndBeside}
+use Rattle.sched_blocks.specs.Busy.{AreBusy, HasNoneBeside}
 use Rattle.sched_blocks.proofs.NoteLemmas.{noted}
 use Rattle.sched_blocks.proofs.nodes.note_idle.Goals as goal
 

@@ -1,6 +1,6 @@
 -- The count so far is that of the lines so far.
 use Rattle.std.proofs.Common.{ℕ, ◌*◌, ◌^◌, ◌≤◌, Option, Some}
-use Rattle.region_bits.specs.Count.{IsCount}
+use Rattle.alloc_bits.specs.Count.{IsCount}
 use Rattle.sched_jobs.specs.Lines.{AreLines}
 use Rattle.sched_jobs.specs.Inner.Numbers.{HasKeyFrom, HasNumbers}
 use Rattle.sched_jobs.proofs.counts.total.Given as goal

@@ -1,9 +1,9 @@
 -- The count so far is that of the classes so far.
 use Rattle.std.proofs.Common.{ℕ, ◌+◌, ◌*◌, ◌^◌, ◌≤◌, List, Option, None}
 use Rattle.cube_shape.specs.declared.limits.TheConstants.{MAX_BITMAP_DIM}
-use Rattle.region_bits.specs.Count.{IsCount}
-use Rattle.wait_queue.specs.declared.nodes.QueueNode.{QueueNode as NodeData}
-use Rattle.wait_queue.specs.declared.queues.Queue.{Queue as QueueData}
+use Rattle.alloc_bits.specs.Count.{IsCount}
+use Rattle.sched_jobs.specs.declared.nodes.QueueNode.{QueueNode as NodeData}
+use Rattle.sched_jobs.specs.declared.queues.Queue.{Queue as QueueData}
 use Rattle.sched_jobs.specs.Lines.{ShowsLines}
 use Rattle.sched_jobs.specs.Inner.Numbers.{HasKeyFrom, HasNumbers}
 use Rattle.sched_jobs.proofs.counts.total_of_classes.Given as goal

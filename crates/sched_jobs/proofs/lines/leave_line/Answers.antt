@@ -1,8 +1,8 @@
 -- The queue of the line loses the slot, and the other queues rest.
 use Rattle.std.proofs.Common.{◌++◌, slice_set, sym, subst, rules}
 use Rattle.std.proofs.lemmas.List.{get_or-set_same}
-use Rattle.wait_queue.specs.declared.queues.Queue.{Queue as QueueData}
-use Rattle.wait_queue.specs.Queues.{IsQueue}
+use Rattle.sched_jobs.specs.declared.queues.Queue.{Queue as QueueData}
+use Rattle.sched_jobs.specs.Queues.{IsQueue}
 use Rattle.sched_jobs.proofs.LineLemmas.{as_before, has_item, left}
 use Rattle.sched_jobs.proofs.lines.leave_line.Goals as goal
 

@@ -3,7 +3,7 @@ use Rattle.std.proofs.Common.{◌≡◌, ℕ, ◌≤◌, sym, subst, None, ◌++
 use Rattle.std.specs.FinMap.{get}
 use Rattle.cube_shape.specs.Region.{block}
 use Rattle.cube_shape.specs.Machine.{Gives, HasNoFit, IsFirstFit}
-use Rattle.region_bits.proofs.RepresentsLemmas.{Gives-first_fit}
+use Rattle.alloc_bits.proofs.RepresentsLemmas.{Gives-first_fit}
 use Rattle.alloc_bits.specs.Inner.{slot_of, pairs_of}
 use Rattle.alloc_bits.proofs.HoldingsLemmas.{of_slots, to_slots, IsConsistent-written, holdings_written}
 use Rattle.alloc_bits.proofs.alloc_bits.AllocBits.take.Goals as goal

@@ -1,7 +1,7 @@
 use Rattle.std.proofs.Common.{◌+◌, ℕ, sym, subst, ap, ◌∙◌}
 use Rattle.std.specs.List.{All}
 use Rattle.job_queue.specs.Line.{IsFor}
-use Rattle.shop_threads.proofs.SlotLemmas.{longer, all_listed}
+use Rattle.dispatcher_threads.proofs.SlotLemmas.{longer, all_listed}
 use Rattle.cube_bench.proofs.dispatch.lists.jobs_of_all.Goals as goal
 
 pub loop-lane-preserved : goal.loop-lane-preserved

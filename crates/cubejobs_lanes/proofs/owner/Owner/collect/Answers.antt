@@ -1,12 +1,12 @@
 -- Each place is empty, or has its lane or its worker.
 use Rattle.std.proofs.Common.{subst}
 use Rattle.std.specs.Arc.{arc_value}
-use Rattle.kept_places.specs.declared.kept.KeptLane.{KeptLane}
-use Rattle.kept_places.specs.declared.kept.KeptWorker.{KeptWorker}
-use Rattle.kept_places.specs.declared.name.PlaceName.{PlaceName}
-use Rattle.kept_places.specs.Kept.{IsLaneAt, IsWorkerAt}
-use Rattle.kept_places.specs.Returns.{HaveComeBack}
-use Rattle.kept_places.proofs.ReturnLemmas.{lanes_back, workers_back}
+use Rattle.cubejobs_lanes.specs.declared.kept.KeptLane.{KeptLane}
+use Rattle.cubejobs_lanes.specs.declared.kept.KeptWorker.{KeptWorker}
+use Rattle.cubejobs_lanes.specs.declared.name.PlaceName.{PlaceName}
+use Rattle.cubejobs_lanes.specs.Kept.{IsLaneAt, IsWorkerAt}
+use Rattle.cubejobs_lanes.specs.KeptReturns.{HaveComeBack}
+use Rattle.cubejobs_lanes.proofs.ReturnLemmas.{lanes_back, workers_back}
 use Rattle.cubejobs_lanes.specs.declared.common.Common.{Common}
 use Rattle.cubejobs_lanes.proofs.owner.Owner.collect.Goals as goal
 

@@ -1,8 +1,8 @@
 -- The worker is the one that was in the first full place.
 use Rattle.std.proofs.Common.{rules, Some, ap, List, Option, subst, sym}
 use Rattle.std.specs.Arc.{arc_value}
-use Rattle.kept_places.specs.declared.kept.KeptWorker.{KeptWorker}
-use Rattle.kept_places.specs.Kept.{AreWorkers}
+use Rattle.cubejobs_lanes.specs.declared.kept.KeptWorker.{KeptWorker}
+use Rattle.cubejobs_lanes.specs.Kept.{AreWorkers}
 use Rattle.cubejobs_lanes.proofs.EmptyLemmas.{empty_worker}
 use Rattle.cubejobs_lanes.proofs.owner.Owner.deal_worker.Goals as goal
 

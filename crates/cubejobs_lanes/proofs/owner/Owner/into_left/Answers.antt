@@ -2,11 +2,11 @@ use Rattle.std.proofs.Common.{◌≡◌, subst, sym}
 use Rattle.std.specs.Arc.{arc_value}
 use Rattle.std.specs.List.{All}
 use Rattle.cubejobs_lanes.specs.declared.common.Common.{Common}
-use Rattle.kept_places.specs.declared.kept.KeptLane.{KeptLane}
-use Rattle.kept_places.specs.declared.kept.KeptWorker.{KeptWorker}
+use Rattle.cubejobs_lanes.specs.declared.kept.KeptLane.{KeptLane}
+use Rattle.cubejobs_lanes.specs.declared.kept.KeptWorker.{KeptWorker}
 use Rattle.cubejobs_lanes.specs.Ending.{IsLaneIn, IsWorkerIn}
-use Rattle.kept_places.specs.Kept.{IsLaneAt, IsWorkerAt}
-use Rattle.kept_places.proofs.PlaceLemmas.{all_full}
+use Rattle.cubejobs_lanes.specs.Kept.{IsLaneAt, IsWorkerAt}
+use Rattle.cubejobs_lanes.proofs.PlaceLemmas.{all_full}
 use Rattle.cubejobs_lanes.proofs.owner.Owner.into_left.Goals as goal
 
 pub left_of-requires-clause-lanes : goal.left_of-requires-clause-lanes

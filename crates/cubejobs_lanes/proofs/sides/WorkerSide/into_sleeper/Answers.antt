@@ -1,7 +1,7 @@
 -- The worker is one of the same lanes.
 use Rattle.std.proofs.Common.{◌∙◌, ◌<◌, subst, sym}
 use Rattle.std.specs.Arc.{arc_value}
-use Rattle.job_lanes.specs.declared.record.WorkerRecord.{WorkerRecord}
+use Rattle.lanes.specs.declared.record.WorkerRecord.{WorkerRecord}
 use Rattle.cubejobs_lanes.proofs.sides.WorkerSide.into_sleeper.Goals as goal
 
 pub invariant_of-result : goal.invariant_of-result

@@ -1,7 +1,7 @@
 use Rattle.std.proofs.Common.{◌-◌, ◌^◌}
 use Rattle.cube_shape.specs.Region.{block}
 use Rattle.cube_shape.specs.Machine.{IsFree}
-use Rattle.region_bits.specs.Count.{IsCount}
+use Rattle.alloc_bits.specs.Count.{IsCount}
 use Rattle.fit_tree.proofs.ValueLemmas.{of_view}
 use Rattle.fit_tree.proofs.fit.FitTree.free_blocks.Goals as goal
 

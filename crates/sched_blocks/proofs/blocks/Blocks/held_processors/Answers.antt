@@ -1,6 +1,6 @@
 use Rattle.std.proofs.Common.{◌^◌, sym, subst}
 use Rattle.cube_shape.specs.Falling.{IsHeld}
-use Rattle.region_bits.specs.Count.{IsCount}
+use Rattle.alloc_bits.specs.Count.{IsCount}
 use Rattle.sched_law.specs.State.{held}
 use Rattle.sched_blocks.specs.Shows.{Shows}
 use Rattle.sched_blocks.proofs.CountLemmas.{counts_held}

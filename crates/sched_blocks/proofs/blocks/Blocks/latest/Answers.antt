@@ -3,7 +3,7 @@ use Rattle.std.proofs.lemmas.Nat.{pow_pos}
 use Rattle.cube_shape.specs.Node.{IsNodeOf}
 use Rattle.cube_shape.proofs.RegionLemmas.{IsAligned-end, IsNodeOf-of_aligned}
 use Rattle.sched_law.specs.Policy.{IsLatest}
-use Rattle.block_trees.specs.Ends.{entry_of}
+use Rattle.sched_blocks.specs.Ends.{entry_of}
 use Rattle.sched_blocks.specs.Shows.{Shows}
 use Rattle.sched_blocks.proofs.LatestLemmas.{in_use_aligned, latest_alone, latest_over, latest_under}
 use Rattle.sched_blocks.proofs.blocks.Blocks.latest.Goals as goal

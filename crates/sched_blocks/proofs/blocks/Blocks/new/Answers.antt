@@ -3,8 +3,8 @@ use Rattle.std.proofs.lemmas.Nat.{one_shl, shl_whole}
 use Rattle.fixed_vec.proofs.Spending.{first, others, both, as_words, with_words}
 use Rattle.fit_tree.specs.Fit.{fit_words}
 use Rattle.fit_tree.proofs.NodeLemmas.{all_nodes}
-use Rattle.block_trees.specs.Ends.{AreEnds}
-use Rattle.block_trees.specs.Busy.{AreBusy}
+use Rattle.sched_blocks.specs.Ends.{AreEnds}
+use Rattle.sched_blocks.specs.Busy.{AreBusy}
 use Rattle.sched_blocks.proofs.NoteLemmas.{written}
 use Rattle.sched_blocks.proofs.ShowsLemmas.{shows_initial}
 use Rattle.sched_blocks.proofs.blocks.Blocks.new.Goals as goal

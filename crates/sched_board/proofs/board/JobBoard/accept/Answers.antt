@@ -4,8 +4,8 @@ use Rattle.sched_law.specs.Law.{IsSound}
 use Rattle.sched_core.specs.declared.scheduler.Core.{Core}
 use Rattle.sched_core.specs.Shows.{KeepsGenerations, dim_of, job_place, job_ticket}
 use Rattle.sched_core.proofs.JobLemmas.{waiting_present}
-use Rattle.sched_pool.specs.declared.workers.PoolWorker.{PoolWorker}
-use Rattle.sched_team.specs.Team.Deed.{submits}
+use Rattle.sched_board.specs.declared.workers.PoolWorker.{PoolWorker}
+use Rattle.sched_law.specs.Team.Deed.{submits}
 use Rattle.sched_board.specs.declared.board.JobBoard.{JobBoard}
 use Rattle.sched_board.proofs.FollowLemmas.{at_then}
 use Rattle.sched_board.proofs.ServeLemmas.{names_after}

@@ -1,6 +1,6 @@
 -- The worker asks directly after its job is over.
 use Rattle.std.proofs.Common.{[], ◌∷◌, sym, subst}
-use Rattle.sched_team.specs.Team.Deed.{asks, ends}
+use Rattle.sched_law.specs.Team.Deed.{asks, ends}
 use Rattle.sched_board.specs.declared.board.JobBoard.{JobBoard}
 use Rattle.sched_board.specs.declared.serving.WorkerStage.{WorkerStage}
 use Rattle.sched_board.specs.JobBoard.{Leads}

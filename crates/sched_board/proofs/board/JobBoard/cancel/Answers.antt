@@ -4,9 +4,9 @@ use Rattle.sched_law.specs.State.{cancel}
 use Rattle.sched_law.proofs.SetLemmas.{runs_waits}
 use Rattle.sched_core.specs.Shows.{job_arrival, job_place}
 use Rattle.sched_core.proofs.JobLemmas.{slot_waits}
-use Rattle.sched_pool.specs.declared.workers.PoolWorker.TheVariants.{Busy}
-use Rattle.sched_pool.specs.Pool.{worker_in}
-use Rattle.sched_team.specs.Team.Deed.{cancels}
+use Rattle.sched_board.specs.declared.workers.PoolWorker.TheVariants.{Busy}
+use Rattle.sched_board.specs.Pool.{worker_in}
+use Rattle.sched_law.specs.Team.Deed.{cancels}
 use Rattle.sched_board.specs.declared.board.JobBoard.{JobBoard}
 use Rattle.sched_board.proofs.FollowLemmas.{leads_one}
 use Rattle.sched_board.proofs.ShowLemmas.{shows_same}

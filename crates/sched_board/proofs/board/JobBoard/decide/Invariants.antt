@@ -1,7 +1,7 @@
 -- What the jobs that started so far did, and which workers have them.
 use Rattle.std.proofs.Common.{◌≡◌, ◌≢◌, None}
 use Rattle.sched_core.specs.Shows.{KeepsGenerations, KeepsSlots, slots_of}
-use Rattle.sched_pool.specs.Pool.{workers_of}
+use Rattle.sched_board.specs.Pool.{workers_of}
 use Rattle.sched_board.specs.JobBoard.{DecidesAt, KeepsPhase, Serves, NamesWoken}
 use Rattle.sched_board.specs.declared.board.BoardPhase.TheVariants.{Stopped}
 use Rattle.sched_board.proofs.board.JobBoard.decide.Given as goal

@@ -2,10 +2,10 @@
 use Rattle.std.proofs.Common.{◌≡◌, ◌≢◌, ℕ, refl, sym, ◌∙◌, ap, subst}
 use Rattle.sched_law.specs.State.{finish}
 use Rattle.sched_core.specs.Shows.{job_arrival}
-use Rattle.sched_pool.specs.declared.workers.PoolWorker.TheVariants.{Busy}
-use Rattle.sched_pool.specs.Pool.{worker_in}
-use Rattle.sched_team.specs.Team.{Does, end_of}
-use Rattle.sched_team.specs.Team.Does.{away, has}
+use Rattle.sched_board.specs.declared.workers.PoolWorker.TheVariants.{Busy}
+use Rattle.sched_board.specs.Pool.{worker_in}
+use Rattle.sched_law.specs.Team.{Does, end_of}
+use Rattle.sched_law.specs.Team.Does.{away, has}
 use Rattle.sched_board.specs.declared.board.JobBoard.{JobBoard}
 use Rattle.sched_board.specs.JobBoard.{ShowsTeam, does_in}
 use Rattle.sched_board.proofs.ShowLemmas.{shown, shows_set}

@@ -1,7 +1,7 @@
 -- A number is the count of the jobs that run just if the scheduler says so.
 use Rattle.std.proofs.Common.{◌≡◌, ℕ, zero, suc, ◌+◌, inl, inr, sym, ◌∙◌, ap, subst, eq-eqb}
 use Rattle.std.proofs.lemmas.Bool.{eqb-true}
-use Rattle.region_bits.specs.Count.{IsCount}
+use Rattle.alloc_bits.specs.Count.{IsCount}
 use Rattle.sched_law.specs.State.{Sched}
 use Rattle.sched_jobs.specs.Counts.{DoesRun}
 use Rattle.sched_core.specs.declared.scheduler.Core.{Core}

@@ -2,7 +2,7 @@
 use Rattle.std.proofs.Common.{refl, sym, subst}
 use Rattle.cube_shape.specs.Region.{IsAligned}
 use Rattle.sched_law.specs.State.{occupy}
-use Rattle.sched_team.specs.Team.Deed.{occupies}
+use Rattle.sched_law.specs.Team.Deed.{occupies}
 use Rattle.sched_board.specs.declared.board.JobBoard.{JobBoard}
 use Rattle.sched_board.proofs.FollowLemmas.{leads_one}
 use Rattle.sched_board.proofs.ShowLemmas.{same_arrival, shows_same}

@@ -1,7 +1,7 @@
 -- The decisions come after the block was put back.
 use Rattle.std.proofs.Common.{[], ◌∷◌, List, length, refl, ap}
-use Rattle.sched_pool.specs.declared.workers.PoolWorker.{PoolWorker}
-use Rattle.sched_team.specs.Team.Deed.{vacates}
+use Rattle.sched_board.specs.declared.workers.PoolWorker.{PoolWorker}
+use Rattle.sched_law.specs.Team.Deed.{vacates}
 use Rattle.sched_board.specs.declared.board.JobBoard.{JobBoard}
 use Rattle.sched_board.specs.Served.{block_at}
 use Rattle.sched_board.proofs.FollowLemmas.{at_then, leads_stopped}

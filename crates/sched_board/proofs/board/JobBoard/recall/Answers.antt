@@ -7,8 +7,8 @@ use Rattle.sched_law.specs.declared.job.SchedWait.{SchedWait}
 use Rattle.sched_jobs.specs.Slots.{IsPresent}
 use Rattle.sched_core.specs.declared.scheduler.Core.{Core}
 use Rattle.sched_core.specs.Shows.{IsTaken, job_arrival, job_place, job_ticket, slots_of}
-use Rattle.sched_pool.specs.declared.workers.PoolWorker.{PoolWorker}
-use Rattle.sched_team.specs.Team.Deed.{cancels}
+use Rattle.sched_board.specs.declared.workers.PoolWorker.{PoolWorker}
+use Rattle.sched_law.specs.Team.Deed.{cancels}
 use Rattle.sched_board.specs.declared.board.JobBoard.{JobBoard}
 use Rattle.sched_board.proofs.FollowLemmas.{at_then, leads_stopped}
 use Rattle.sched_board.proofs.ServeLemmas.{names_after}

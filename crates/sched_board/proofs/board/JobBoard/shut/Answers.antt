@@ -1,7 +1,7 @@
 -- The decisions come after no job may come any more, which changes no worker.
 use Rattle.std.proofs.Common.{◌≡◌, [], ◌∷◌, ap, sym, subst, ◌∙◌}
-use Rattle.sched_pool.specs.Pool.{PoolData, workers_of}
-use Rattle.sched_team.specs.Team.Deed.{closes}
+use Rattle.sched_board.specs.Pool.{PoolData, workers_of}
+use Rattle.sched_law.specs.Team.Deed.{closes}
 use Rattle.sched_board.specs.declared.board.JobBoard.{JobBoard}
 use Rattle.sched_board.specs.declared.board.BoardPhase.TheVariants.{Stopped}
 use Rattle.sched_board.specs.JobBoard.{Leads, phase_after}

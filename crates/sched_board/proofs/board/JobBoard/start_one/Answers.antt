@@ -5,12 +5,12 @@ use Rattle.sched_law.specs.State.{at}
 use Rattle.sched_law.proofs.EndLemmas.{settled_after}
 use Rattle.sched_core.specs.declared.scheduler.Core.{Core}
 use Rattle.sched_core.specs.Shows.{ShowsCore, job_arrival}
-use Rattle.sched_pool.specs.declared.workers.PoolWorker.{PoolWorker}
-use Rattle.sched_pool.specs.declared.workers.PoolWorker.TheVariants.{Waiting, Busy}
-use Rattle.sched_pool.specs.Workers.{none_waits_in}
-use Rattle.sched_pool.specs.Pool.{worker_in}
-use Rattle.sched_team.specs.Team.Deed.{settles, starts}
-use Rattle.sched_team.specs.Team.Does.{has, waits}
+use Rattle.sched_board.specs.declared.workers.PoolWorker.{PoolWorker}
+use Rattle.sched_board.specs.declared.workers.PoolWorker.TheVariants.{Waiting, Busy}
+use Rattle.sched_board.specs.Workers.{none_waits_in}
+use Rattle.sched_board.specs.Pool.{worker_in}
+use Rattle.sched_law.specs.Team.Deed.{settles, starts}
+use Rattle.sched_law.specs.Team.Does.{has, waits}
 use Rattle.sched_board.specs.declared.board.JobBoard.{JobBoard}
 use Rattle.sched_board.specs.JobBoard.{IsAtRest, does_in}
 use Rattle.sched_board.proofs.ShowLemmas.{busy_taken, shown, shows_same, shows_set, waits_waiting}

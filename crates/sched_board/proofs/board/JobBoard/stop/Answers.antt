@@ -1,9 +1,9 @@
 -- The decisions come after what the worker did. It does not wait then, so they give it no job.
 use Rattle.std.proofs.Common.{◌≡◌, ℕ, [], inl, inr, Option, Some, None, IfSome, IfNone, sym, ◌∙◌}
 use Rattle.sched_core.specs.declared.scheduler.Core.{Core}
-use Rattle.sched_pool.specs.declared.workers.PoolWorker.{PoolWorker}
-use Rattle.sched_pool.specs.declared.workers.PoolWorker.TheVariants.{Away, Busy}
-use Rattle.sched_pool.specs.Pool.{worker_in}
+use Rattle.sched_board.specs.declared.workers.PoolWorker.{PoolWorker}
+use Rattle.sched_board.specs.declared.workers.PoolWorker.TheVariants.{Away, Busy}
+use Rattle.sched_board.specs.Pool.{worker_in}
 use Rattle.sched_board.specs.declared.serving.WorkerStage.{WorkerStage}
 use Rattle.sched_board.specs.declared.serving.WorkerStage.TheVariants.{Asked}
 use Rattle.sched_board.specs.declared.start.ThreadStart.{ThreadStart}

@@ -4,7 +4,7 @@ use Rattle.std.specs.Option.{ok_or}
 use Rattle.sched_law.specs.State.{submit}
 use Rattle.sched_law.specs.Law.{IsSound}
 use Rattle.sched_core.specs.Shows.{IsTaken}
-use Rattle.sched_team.specs.Team.Deed.{submits}
+use Rattle.sched_law.specs.Team.Deed.{submits}
 use Rattle.sched_board.specs.declared.board.JobBoard.{JobBoard}
 use Rattle.sched_board.specs.declared.board.BoardRefusal.{BoardRefusal}
 use Rattle.sched_board.specs.declared.board.BoardRefusal.TheVariants.{Full}

@@ -2,8 +2,8 @@
 use Rattle.std.proofs.Common.{[], ◌∷◌, List, length, refl, ◌∙◌, ap, subst}
 use Rattle.cube_shape.specs.Region.{IsAligned}
 use Rattle.sched_core.specs.Shows.{dim_of}
-use Rattle.sched_pool.specs.declared.workers.PoolWorker.{PoolWorker}
-use Rattle.sched_team.specs.Team.Deed.{occupies}
+use Rattle.sched_board.specs.declared.workers.PoolWorker.{PoolWorker}
+use Rattle.sched_law.specs.Team.Deed.{occupies}
 use Rattle.sched_board.specs.declared.board.JobBoard.{JobBoard}
 use Rattle.sched_board.specs.Served.{block_at}
 use Rattle.sched_board.proofs.FollowLemmas.{at_then, leads_stopped}

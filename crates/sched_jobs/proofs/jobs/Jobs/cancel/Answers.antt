@@ -1,6 +1,6 @@
 -- A waiting job leaves its line, and then its slot.
 use Rattle.std.proofs.Common.{◌≡◌, ℕ, ◌+◌, List, None, refl, sym, ◌∙◌, subst, ap, arith}
-use Rattle.wait_queue.specs.Nodes.{key_of}
+use Rattle.sched_jobs.specs.Nodes.{key_of}
 use Rattle.sched_law.specs.declared.job.Place.{Place}
 use Rattle.sched_law.specs.declared.job.Place.TheVariants.{Absent, Waiting}
 use Rattle.sched_law.specs.State.{set}

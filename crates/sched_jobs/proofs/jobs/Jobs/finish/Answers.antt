@@ -2,7 +2,7 @@
 use Rattle.std.proofs.Common.{◌≡◌, ℕ, ◌<◌, ◌≤◌, List, None, length, refl, sym, ◌∙◌, subst, ap, arith}
 use Rattle.sched_law.specs.declared.job.Place.TheVariants.{Absent, Running}
 use Rattle.sched_law.specs.State.{set}
-use Rattle.wait_queue.specs.Nodes.{key_of}
+use Rattle.sched_jobs.specs.Nodes.{key_of}
 use Rattle.sched_jobs.specs.declared.slots.Slot.{Slot}
 use Rattle.sched_law.proofs.SetLemmas.{absent_waits}
 use Rattle.sched_jobs.specs.Slots.{IsPresent, generation_in, line_of, place_in}

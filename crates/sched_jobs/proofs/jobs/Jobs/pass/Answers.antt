@@ -6,7 +6,7 @@ use Rattle.sched_law.specs.declared.job.SchedWait.{SchedWait}
 use Rattle.sched_law.specs.declared.job.TheConstants.{NEVER}
 use Rattle.sched_law.specs.State.{set}
 use Rattle.sched_law.proofs.SetLemmas.{wait_is}
-use Rattle.wait_queue.specs.Nodes.{key_of}
+use Rattle.sched_jobs.specs.Nodes.{key_of}
 use Rattle.sched_jobs.specs.declared.slots.Slot.{Slot}
 use Rattle.sched_jobs.specs.Slots.{IsPresent, generation_in, line_of, place_in}
 use Rattle.sched_jobs.specs.Shows.{ShowsSlots}

@@ -1,6 +1,6 @@
 -- The counter counts the running jobs.
 use Rattle.std.proofs.Common.{sym, ◌∙◌, ap, subst}
-use Rattle.region_bits.specs.Count.{IsCount}
+use Rattle.alloc_bits.specs.Count.{IsCount}
 use Rattle.sched_jobs.specs.Counts.{DoesRun}
 use Rattle.sched_jobs.specs.Sums.{one_runs, sum_below}
 use Rattle.sched_jobs.proofs.SumLemmas.{runs_counted}

@@ -5,8 +5,8 @@ use Rattle.sched_law.specs.declared.job.Place.TheVariants.{Waiting, Running}
 use Rattle.sched_law.specs.declared.job.SchedWait.{SchedWait}
 use Rattle.sched_law.specs.State.{end_after, set}
 use Rattle.sched_law.proofs.SetLemmas.{runs_waits, wait_is}
-use Rattle.wait_queue.specs.declared.nodes.TheConstants.{MAX_SLOTS}
-use Rattle.wait_queue.specs.Nodes.{key_of}
+use Rattle.sched_jobs.specs.declared.nodes.TheConstants.{MAX_SLOTS}
+use Rattle.sched_jobs.specs.Nodes.{key_of}
 use Rattle.sched_jobs.specs.declared.slots.Slot.{Slot}
 use Rattle.sched_jobs.specs.Slots.{IsPresent, generation_in, line_of, place_in}
 use Rattle.sched_jobs.specs.Shows.{ShowsSlots}

@@ -1,7 +1,7 @@
 -- The vectors have the lists.
 use Rattle.std.proofs.Common.{ℕ, List, sym, subst}
-use Rattle.wait_queue.specs.declared.nodes.QueueNode.{QueueNode as NodeData}
-use Rattle.wait_queue.specs.declared.queues.Queue.{Queue as QueueData}
+use Rattle.sched_jobs.specs.declared.nodes.QueueNode.{QueueNode as NodeData}
+use Rattle.sched_jobs.specs.declared.queues.Queue.{Queue as QueueData}
 use Rattle.sched_jobs.specs.Lines.{ShowsLines}
 use Rattle.sched_jobs.specs.Inner.Search.{IsChosen}
 use Rattle.sched_jobs.proofs.line_table.LineTable.first.Goals as goal

@@ -1,7 +1,7 @@
 use Rattle.std.proofs.Common.{◌≡◌, Option, IfNone, List, length, sym, ap, ◌∙◌, subst}
 use Rattle.std.specs.List.{slice_index_or}
-use Rattle.sched_pool.specs.declared.workers.PoolWorker.TheVariants.{Away}
-use Rattle.sched_pool.specs.Pool.{worker_in}
+use Rattle.sched_board.specs.declared.workers.PoolWorker.TheVariants.{Away}
+use Rattle.sched_board.specs.Pool.{worker_in}
 use Rattle.sched_board.specs.declared.start.ThreadStart.{ThreadStart}
 use Rattle.sched_threads.specs.declared.chair.Chair.{Chair}
 use Rattle.sched_threads.specs.declared.chair.Chair.TheVariants.{Free, Out}

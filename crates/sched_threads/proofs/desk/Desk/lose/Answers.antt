@@ -1,6 +1,6 @@
 use Rattle.std.proofs.Common.{List, length, sym, ap, ◌∙◌, subst}
 use Rattle.std.specs.List.{slice_index_or}
-use Rattle.sched_pool.specs.Pool.{worker_in}
+use Rattle.sched_board.specs.Pool.{worker_in}
 use Rattle.sched_threads.specs.declared.chair.Chair.{Chair}
 use Rattle.sched_threads.specs.declared.chair.Chair.TheVariants.{Free}
 use Rattle.sched_threads.specs.Desk.{DeskData, FitsChair}

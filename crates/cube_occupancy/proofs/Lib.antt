@@ -1,2 +1,0 @@
-pub mod RegionLemmas
-pub mod AncestorLemmas

@@ -1,5 +1,0 @@
-use Rattle.cube_occupancy.specs.Inner.Largest.{IsLargestBelow}
-use Rattle.cube_occupancy.proofs.counting.largest_free.Given as goal
-
-abbrev pub invariant-loop-dim : goal.invariant-loop-dim
-invariant-loop-dim l = IsLargestBelow l.dim l.free l.largest

@@ -1,3 +1,0 @@
-pub mod Occupancy
-pub mod Inner
-pub use Rattle.ghost_history.specs.Sums.{below}

@@ -1,0 +1,102 @@
+//! Places by which what handles had comes back to its owner, from any thread.
+ghost use Rattle.std.specs.Prelude.{◌≡◌, ◌<◌, IfErr, IfOk, IfSome, length};
+ghost use Rattle.cubejobs_lanes.specs.Kept.{IsLaneAt, IsWorkerAt};
+ghost use Rattle.cubejobs_lanes.specs.KeptReturns.{AreNamed, ComesBackAt, HaveComeBack};
+
+use crate::kept::{KeptLane, KeptWorker};
+use crate::name::PlaceName;
+use crate::places::put_into;
+use counted_slot::{Counted, FREE, Fits, PRESENT, TAKEN};
+use lanes::Lanes;
+use std::alloc::{AllocError, Global};
+use std::snapshot::Snapshot;
+
+/// A place of one content, which any thread fills, and which the owner empties. Contracts see its
+/// name: what is in it has the name's property `fits`.
+pub type ReturnPlace<X> = Counted<Option<X>>;
+
+impl Fits for KeptLane {
+    type Tag = PlaceName;
+
+    ghost fits = { λ name kept. IsLaneAt name.lanes.value name.number kept };
+}
+
+impl Fits for KeptWorker {
+    type Tag = PlaceName;
+
+    ghost fits = { λ name kept. IsWorkerAt name.lanes.value name.number kept };
+}
+
+/// Makes this number of empty places for lanes or workers, named from 0 on.
+pub fn named_places<X: Fits<Tag = PlaceName>>(
+    alloc: Global,
+    lanes: &Lanes,
+    count: u32,
+) -> Result<Vec<ReturnPlace<X>>, AllocError>
+    ensures names { IfOk result (λ places. AreNamed lanes.now count places.items) }
+    ensures length { IfOk result (λ places. length places.items ≡ count) }
+{
+    let mut name = PlaceName {
+        lanes: Snapshot::of(lanes),
+        number: 0,
+    };
+    let mut places = Vec::with_capacity(alloc, count as usize)?;
+    for number in 0..count {
+        name.number = number;
+        places.push_reserved(Counted::new(None, &name));
+    }
+    Ok(places)
+}
+
+/// Puts a content into an empty place. Gives the content back if another call is at the place.
+pub fn leave<X: Fits + Drop>(place: &ReturnPlace<X>, content: X) -> Result<(), X>
+    requires fits { X.fits place.now content }
+    ensures refused { IfErr result (λ given. given ≡ content) }
+{
+    let (found, claim) = place.turn(FREE, TAKEN);
+    if found != FREE {
+        claim.done();
+        return Err(content);
+    }
+    drop(claim.put(Some(content), PRESENT));
+    Ok(())
+}
+
+// Takes the content of a place, if it has one.
+fn collect<X: Fits>(place: &ReturnPlace<X>) -> Option<X>
+    ensures fits { IfSome result (X.fits place.now) }
+{
+    if place.load() != PRESENT {
+        return None;
+    }
+    let (found, claim) = place.turn(PRESENT, TAKEN);
+    if found != PRESENT {
+        claim.done();
+        return None;
+    }
+    claim.put(None, FREE)
+}
+
+// Takes what has come back to a place, if the owner's place is empty.
+fn collect_at<X: Fits + Drop>(from: &Vec<ReturnPlace<X>>, places: &mut Vec<Option<X>>, place: usize)
+    requires from { place < length from.now.items }
+    requires inside { place < length places.old.items }
+    ensures { ComesBackAt X.fits from.now.items place places.old.items places.new.items }
+{
+    if places[place].is_some() {
+        return;
+    }
+    if let Some(content) = collect(&from[place]) {
+        put_into(places, place, content);
+    }
+}
+
+/// Takes what has come back into the owner's empty places.
+pub fn collect_all<X: Fits + Drop>(from: &Vec<ReturnPlace<X>>, places: &mut Vec<Option<X>>)
+    requires { length from.now.items ≡ length places.old.items }
+    ensures { HaveComeBack X.fits from.now.items places.old.items places.new.items }
+{
+    for place in 0..places.len() {
+        collect_at(from, places, place);
+    }
+}

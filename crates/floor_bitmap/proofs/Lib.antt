@@ -1,2 +1,0 @@
-mod HandleLemmas
-pub mod SharedLemmas

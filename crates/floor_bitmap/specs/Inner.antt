@@ -1,2 +1,0 @@
--- Definitions that only the contracts and proofs of `BitmapFloor` use.
-pub mod Handle

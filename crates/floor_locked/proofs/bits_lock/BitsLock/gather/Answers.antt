@@ -1,5 +1,0 @@
-use Rattle.floor_locked.proofs.DealLemmas.{joins_views}
-use Rattle.floor_locked.proofs.bits_lock.BitsLock.gather.Goals as goal
-
-pub gather-requires-clause-joins : goal.gather-requires-clause-joins
-gather-requires-clause-joins c = joins_views _ _ _ _ _ c.requires.idle.0.1 c.requires.idle.1.1 c.requires.idle.0.2

@@ -1,6 +1,0 @@
-use Rattle.std.proofs.Common.{refl}
-use Rattle.floor_locked.proofs.StepLemmas.{leaves_step}
-use Rattle.floor_locked.proofs.bits_lock.BitsLock.leave.Goals as goal
-
-pub give_back-requires-clause-allows : goal.give_back-requires-clause-allows
-give_back-requires-clause-allows c = let t = c.requires.ready in leaves_step _ 1 refl _ _ t.0 t.1 t.2

@@ -1,5 +1,0 @@
-use Rattle.floor_locked.proofs.DealLemmas.{opens}
-use Rattle.floor_locked.proofs.bits_lock.BitsLock.new.Goals as goal
-
-pub new-requires-2 : goal.new-requires-2
-new-requires-2 c = opens _ _ c.in_ok-bits.ensures.dim c.in_ok-bits.ensures.free

@@ -1,5 +1,0 @@
-use Rattle.std.proofs.Common.{arith}
-use Rattle.job_lanes.proofs.lanes.Lanes.leave.Goals as goal
-
-pub leave-requires-clause-words : goal.leave-requires-clause-words
-leave-requires-clause-words c = omega (arith, c.self.invariant.0, c.self.invariant.7)

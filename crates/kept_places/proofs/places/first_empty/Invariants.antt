@@ -1,5 +1,0 @@
-use Rattle.kept_places.specs.Places.{AreFullBelow}
-use Rattle.kept_places.proofs.places.first_empty.Given as goal
-
-abbrev pub invariant-loop-place : goal.invariant-loop-place
-invariant-loop-place g l = AreFullBelow l.place l.places.items

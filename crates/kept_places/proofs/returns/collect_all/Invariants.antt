@@ -1,5 +1,0 @@
-use Rattle.kept_places.specs.Returns.{HaveComeBack}
-use Rattle.kept_places.proofs.returns.collect_all.Given as goal
-
-abbrev pub invariant-loop-place : goal.invariant-loop-place
-invariant-loop-place g l = HaveComeBack g.X.Fits.fits l.from.items l.fn.places.items l.places.items

@@ -1,4 +1,0 @@
-pub mod Kept
-pub mod Places
-pub mod Returns
-pub mod Wakes

@@ -1,7 +1,0 @@
-use Rattle.lane_bench.proofs.crowd.abandon.Given as goal
-
-abbrev pub decreases-loop-producer : goal.decreases-loop-producer
-decreases-loop-producer l = goal.left-loop-producer l
-
-abbrev pub decreases-loop-consumer : goal.decreases-loop-consumer
-decreases-loop-consumer l = goal.left-loop-consumer l

@@ -1,5 +1,0 @@
-use Rattle.line_locked.proofs.EndLemmas.{ends}
-use Rattle.line_locked.proofs.store_lock.StoreLock.end.Goals as goal
-
-pub returns : goal.returns
-returns c = λ number whole. ends _ _ _ number _ c.end.ensures whole

@@ -1,6 +1,0 @@
-use Rattle.std.proofs.Common.{refl}
-use Rattle.line_locked.proofs.StepLemmas.{hands_step}
-use Rattle.line_locked.proofs.store_lock.StoreLock.hand_over.Goals as goal
-
-pub give_back-requires-clause-allows : goal.give_back-requires-clause-allows
-give_back-requires-clause-allows c = let t = c.requires.ready in hands_step _ 1 refl _ _ t.0 t.1 t.2 t.3 t.4 t.5

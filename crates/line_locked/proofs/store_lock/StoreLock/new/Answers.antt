@@ -1,5 +1,0 @@
-use Rattle.line_locked.proofs.DealLemmas.{opens}
-use Rattle.line_locked.proofs.store_lock.StoreLock.new.Goals as goal
-
-pub new-requires-2 : goal.new-requires-2
-new-requires-2 c = opens _ _ c.requires c.in_ok-store.ensures

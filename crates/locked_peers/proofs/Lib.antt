@@ -1,0 +1,16 @@
+pub mod CellLemmas
+pub mod LineDeedLemmas
+pub mod LineKeepLemmas
+pub mod LineStepLemmas
+pub mod LineHistoryLemmas
+pub mod LineListedLemmas
+pub mod LineDealLemmas
+pub mod LineEndLemmas
+pub mod LineHandleLemmas
+pub mod FloorDeedLemmas
+pub mod FloorKeepLemmas
+pub mod FloorStepLemmas
+pub mod FloorDealLemmas
+pub mod FloorEndLemmas
+pub mod FloorHandleLemmas
+pub mod FloorSerialLemmas

@@ -1,3 +1,0 @@
-mod BitLemmas
-pub mod ScanLemmas
-pub mod RepresentsLemmas

@@ -1,2 +1,0 @@
-pub mod Request
-pub use Rattle.sched_law.specs.Law.{IsSound}

@@ -1,4 +1,0 @@
-pub mod DecideLemmas
-pub mod TeamLemmas
-pub mod OutcomeLemmas
-pub mod CloseLemmas

@@ -1,3 +1,0 @@
-pub mod Team
-pub mod Outcome
-pub use Rattle.sched_law.specs.Law.{IsSafe}

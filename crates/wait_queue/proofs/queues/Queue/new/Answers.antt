@@ -1,7 +1,0 @@
--- No slot is none.
-use Rattle.std.proofs.Common.{refl}
-use Rattle.wait_queue.proofs.QueueLemmas.{empty_queue}
-use Rattle.wait_queue.proofs.queues.Queue.new.Goals as goal
-
-pub returns : goal.returns
-returns c = λ nodes. empty_queue nodes _ refl

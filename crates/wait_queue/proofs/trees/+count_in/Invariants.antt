@@ -1,6 +1,0 @@
--- The number of items falls.
-use Rattle.wait_queue.specs.Inner.Changes.{size_at}
-use Rattle.wait_queue.proofs.trees.+count_in.Given as goal
-
-abbrev pub decreases-count_in : goal.decreases-count_in
-decreases-count_in l = size_at l.nodes.now l.link

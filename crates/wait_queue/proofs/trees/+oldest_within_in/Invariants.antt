@@ -1,6 +1,0 @@
--- The number of items falls.
-use Rattle.wait_queue.specs.Inner.Changes.{size_at}
-use Rattle.wait_queue.proofs.trees.+oldest_within_in.Given as goal
-
-abbrev pub decreases-oldest_within_in : goal.decreases-oldest_within_in
-decreases-oldest_within_in l = size_at l.nodes.now l.link

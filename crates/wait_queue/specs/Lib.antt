@@ -1,4 +1,0 @@
-pub mod Nodes
-pub mod Lists
-pub mod Queues
-pub mod Inner
