@@ -24,7 +24,7 @@ pub extern "C" fn cubejobs_plan_finish(plan: &mut source::cubejobs_plan::Handle,
 }
 
 #[no_mangle]
-pub extern "C" fn cubejobs_plan_submit(plan: &mut source::cubejobs_plan::Handle, request: source::sched_request::JobRequest) -> source::cubejobs_plan::PlanJob {
+pub extern "C" fn cubejobs_plan_submit(plan: &mut source::cubejobs_plan::Handle, request: source::sched_core::JobRequest) -> source::cubejobs_plan::PlanJob {
     source::cubejobs_plan::cubejobs_plan_submit(plan, request)
 }
 

@@ -15,7 +15,7 @@ pub use crate::source::cubejobs_lanes::{
     CloseAnswer as Closed, FindAnswer as Found, JobAnswer as Job, LaneSizes as Sizes, LookAnswer as Looked,
     SubmitAnswer as Submitted,
 };
-pub use crate::source::job_lanes::{MAX_CAPACITY, MAX_LANES, MAX_WORKERS};
+pub use crate::source::lanes::{MAX_CAPACITY, MAX_LANES, MAX_WORKERS};
 
 /// The role of the handle that owns lanes.
 pub enum Owner {}

@@ -17,7 +17,6 @@ pub mod cube_shape;
 pub mod cubejobs_fit;
 pub mod cubejobs_rounds;
 pub mod fit_tree;
-pub mod rank_steps;
 pub mod release_version;
 
 #[cfg(any(feature = "lanes", feature = "plan", feature = "regions", feature = "sched"))]
@@ -33,16 +32,12 @@ pub mod cubejobs_regions;
 #[cfg(feature = "lanes")]
 pub mod cubejobs_lanes;
 #[cfg(feature = "lanes")]
-pub mod job_lanes;
-#[cfg(feature = "lanes")]
-pub mod kept_places;
+pub mod lanes;
 #[cfg(feature = "lanes")]
 pub mod wake_calls;
 #[cfg(feature = "lanes")]
 pub mod wake_pool;
 
-#[cfg(any(feature = "plan", feature = "sched"))]
-pub mod block_trees;
 #[cfg(feature = "plan")]
 pub mod cubejobs_plan;
 #[cfg(any(feature = "plan", feature = "sched"))]
@@ -53,16 +48,10 @@ pub mod sched_core;
 pub mod sched_jobs;
 #[cfg(any(feature = "plan", feature = "sched"))]
 pub mod sched_law;
-#[cfg(any(feature = "plan", feature = "sched"))]
-pub mod sched_request;
-#[cfg(any(feature = "plan", feature = "sched"))]
-pub mod wait_queue;
 
 #[cfg(feature = "sched")]
 pub mod cubejobs_sched;
 #[cfg(feature = "sched")]
 pub mod sched_board;
-#[cfg(feature = "sched")]
-pub mod sched_pool;
 #[cfg(feature = "sched")]
 pub mod sched_threads;

@@ -10,13 +10,20 @@
 //!
 //! If there are fewer items than places, `pad` puts the unit at the other places. This does not
 //! change the total.
+//!
+//! `step` says what one rank does in a round: the rank that it sends to, and the rank that it
+//! receives from. The steps of all ranks over all rounds are exactly the messages of the
+//! collective. Each is there once as a send and once as a receive.
 
 pub(crate) mod message;
 pub(crate) mod messages;
+
+pub(crate) mod partners;
 
 pub(crate) mod shape;
 
 pub use message::Message;
 pub use messages::message_at;
 
+pub use partners::{Partners, messages_are_listed_once, step};
 pub use shape::{DIM_LIMIT, Shape, Tally};

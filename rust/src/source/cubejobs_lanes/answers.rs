@@ -2,7 +2,7 @@
 //! The answers that callers in C see.
 
 use crate::source::cubejobs_lanes::codes::{CLOSED, DONE, EMPTY, ENDED, FULL, LOST, SPENT};
-use crate::source::job_lanes::{LaneJob, Looked, Submitted, Taken, TakenAny};
+use crate::source::lanes::{LaneJob, Looked, Submitted, Taken, TakenAny};
 
 /// The answer of a submit.
 #[repr(C)]

@@ -1,9 +1,9 @@
 // Made from crates/cubejobs_lanes/src/closing.rt by checks/lib/erase.py. Change that file.
 //! How lanes are closed.
 
+use crate::source::cubejobs_lanes::kept::KeptNote;
 use crate::source::cubejobs_lanes::owner::Owner;
 use crate::source::cubejobs_lanes::stage::Stage;
-use crate::source::kept_places::KeptNote;
 
 impl Owner {
     // Closes all lanes. Returns how many jobs they have accepted, unless they were closed.

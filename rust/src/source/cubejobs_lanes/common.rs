@@ -3,8 +3,9 @@
 
 use crate::source::kit::prelude::{Vec};
 
-use crate::source::job_lanes::{Lanes, Sizes};
-use crate::source::kept_places::{KeptLane, KeptWorker, ReturnPlace};
+use crate::source::cubejobs_lanes::kept::{KeptLane, KeptWorker};
+use crate::source::cubejobs_lanes::returns::ReturnPlace;
+use crate::source::lanes::{Lanes, Sizes};
 
 /// The lanes, their sizes, and the places by which lanes and workers come back.
 pub(crate) struct Common {

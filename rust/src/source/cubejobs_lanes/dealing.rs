@@ -5,9 +5,9 @@ use crate::source::kit::prelude::{Box};
 
 use crate::source::cubejobs_lanes::codes::{DONE, NONE_LEFT, OUT_OF_MEMORY};
 use crate::source::cubejobs_lanes::owner::Owner;
+use crate::source::cubejobs_lanes::places::{first_full, take_from};
 use crate::source::cubejobs_lanes::sides::{LaneSide, WorkerSide};
 use crate::source::cubejobs_lanes::state::State;
-use crate::source::kept_places::{first_full, take_from};
 use crate::source::kit::alloc::Global;
 use crate::source::kit::sync::Arc;
 

@@ -6,12 +6,13 @@ use crate::source::kit::prelude::{Vec};
 use crate::source::cubejobs_lanes::answers::FinishAnswer;
 use crate::source::cubejobs_lanes::codes::{DONE, LANE_OUT, NOT_CLOSED, STILL_SHARED, WORKER_OUT};
 use crate::source::cubejobs_lanes::common::Common;
+use crate::source::cubejobs_lanes::kept::{KeptLane, KeptWorker};
 use crate::source::cubejobs_lanes::left::Left;
 use crate::source::cubejobs_lanes::owner::Owner;
+use crate::source::cubejobs_lanes::places::first_empty;
 use crate::source::cubejobs_lanes::stage::Stage;
 use crate::source::cubejobs_lanes::state::State;
-use crate::source::job_lanes::{Lanes, LanesEnd};
-use crate::source::kept_places::{KeptLane, KeptWorker, first_empty};
+use crate::source::lanes::{Lanes, LanesEnd};
 use crate::source::kit::collections::VecDeque;
 use crate::source::kit::sync::Arc;
 

@@ -2,7 +2,7 @@
 //! The answers of the calls by which workers sleep and wake each other.
 
 use crate::source::cubejobs_lanes::codes::{AGAIN, DONE, ENDED, NO_WORKER, NOBODY, PARK};
-use crate::source::job_lanes::{Found, LaneJob};
+use crate::source::lanes::{Found, LaneJob};
 use crate::source::wake_calls::Wake;
 
 /// The answer of a call that finds a job or lets the worker lie down. All is 0 except the code and

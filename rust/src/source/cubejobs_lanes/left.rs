@@ -3,7 +3,7 @@
 
 use crate::source::cubejobs_lanes::answers::JobAnswer;
 use crate::source::cubejobs_lanes::codes::EMPTY;
-use crate::source::job_lanes::LaneJob;
+use crate::source::lanes::LaneJob;
 use crate::source::kit::collections::VecDeque;
 
 /// The jobs that are left, each with its lane.

@@ -4,10 +4,11 @@
 use crate::source::kit::prelude::{Vec};
 
 use crate::source::cubejobs_lanes::common::Common;
+use crate::source::cubejobs_lanes::kept::{KeptLane, KeptWorker};
 use crate::source::cubejobs_lanes::owner::Owner;
+use crate::source::cubejobs_lanes::returns::named_places;
 use crate::source::cubejobs_lanes::stage::Stage;
-use crate::source::job_lanes::{Lanes, Members, Sizes};
-use crate::source::kept_places::{KeptLane, KeptWorker, named_places};
+use crate::source::lanes::{Lanes, Members, Sizes};
 use crate::source::kit::alloc::{AllocError, Global};
 use crate::source::kit::sync::Arc;
 

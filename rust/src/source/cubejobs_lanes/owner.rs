@@ -4,8 +4,8 @@
 use crate::source::kit::prelude::{Vec};
 
 use crate::source::cubejobs_lanes::common::Common;
+use crate::source::cubejobs_lanes::kept::{KeptLane, KeptWorker};
 use crate::source::cubejobs_lanes::stage::Stage;
-use crate::source::kept_places::{KeptLane, KeptWorker};
 use crate::source::kit::sync::Arc;
 
 /// The lanes, and a place for each of their lanes and workers. A place is empty while a handle has

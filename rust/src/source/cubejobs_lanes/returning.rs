@@ -2,7 +2,7 @@
 //! Lanes and workers come back to the owner, from any thread.
 
 use crate::source::cubejobs_lanes::owner::Owner;
-use crate::source::kept_places::collect_all;
+use crate::source::cubejobs_lanes::returns::collect_all;
 
 impl Owner {
     // Takes the lanes and workers that have come back into their places.

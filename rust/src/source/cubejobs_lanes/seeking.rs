@@ -2,8 +2,8 @@
 //! A worker of lanes finds a job, or lies down.
 
 use crate::source::cubejobs_lanes::sleeper_side::{KeptJob, SleeperSide};
-use crate::source::job_lanes::{At, Finding, Found};
-use crate::source::kept_places::TRIES;
+use crate::source::cubejobs_lanes::tries::TRIES;
+use crate::source::lanes::{At, Finding, Found};
 
 impl SleeperSide {
     // Goes on to wake another worker. Returns the job that it keeps once that is over.

@@ -2,8 +2,9 @@
 //! A producer and a worker, each with its share of the lanes.
 
 use crate::source::cubejobs_lanes::common::Common;
-use crate::source::job_lanes::{Lane, Looked, Submitted, Taken, TakenAny, Worker};
-use crate::source::kept_places::{KeptLane, KeptWorker, leave};
+use crate::source::cubejobs_lanes::kept::{KeptLane, KeptWorker};
+use crate::source::cubejobs_lanes::returns::leave;
+use crate::source::lanes::{Lane, Looked, Submitted, Taken, TakenAny, Worker};
 use crate::source::kit::sync::Arc;
 
 /// The right to submit jobs to one lane.

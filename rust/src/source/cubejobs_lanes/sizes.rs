@@ -1,7 +1,7 @@
 // Made from crates/cubejobs_lanes/src/sizes.rt by checks/lib/erase.py. Change that file.
 //! The sizes of lanes, as C passes them.
 
-use crate::source::job_lanes::{MAX_CAPACITY, MAX_LANES, MAX_WORKERS, Sizes};
+use crate::source::lanes::{MAX_CAPACITY, MAX_LANES, MAX_WORKERS, Sizes};
 
 /// The number of lanes and of workers, and the number of jobs that a lane holds.
 #[repr(C)]
@@ -21,7 +21,7 @@ impl LaneSizes {
         lanes && workers && capacity
     }
 
-    // Returns the sizes as `job_lanes` takes them.
+    // Returns the sizes as `lanes` takes them.
     pub(crate) fn sizes(self) -> Sizes {
         let LaneSizes {
             lanes,

@@ -6,7 +6,7 @@ use crate::source::cubejobs_lanes::find_answer::{FindAnswer, NumberAnswer, WakeA
 use crate::source::cubejobs_lanes::handle::Handle;
 use crate::source::cubejobs_lanes::sleeper_side::SleeperSide;
 use crate::source::cubejobs_lanes::state::State;
-use crate::source::job_lanes::Found;
+use crate::source::lanes::Found;
 use core::mem::{forget, replace};
 
 // Returns the number of lanes of a worker, or why the call is refused.

@@ -3,7 +3,7 @@
 
 use crate::source::cubejobs_lanes::common::Common;
 use crate::source::cubejobs_lanes::sides::WorkerSide;
-use crate::source::job_lanes::{Finder, LaneJob};
+use crate::source::lanes::{Finder, LaneJob};
 use crate::source::kit::sync::Arc;
 
 /// A job that a worker took, and that no call has returned yet.

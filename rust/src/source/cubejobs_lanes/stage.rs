@@ -1,8 +1,8 @@
 // Made from crates/cubejobs_lanes/src/stage.rt by checks/lib/erase.py. Change that file.
 //! Whether lanes are closed.
 
-use crate::source::job_lanes::Members;
-use crate::source::kept_places::KeptNote;
+use crate::source::cubejobs_lanes::kept::KeptNote;
+use crate::source::lanes::Members;
 
 /// Whether lanes are closed.
 pub(crate) enum Stage {

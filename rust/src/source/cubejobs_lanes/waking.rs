@@ -2,7 +2,7 @@
 //! A producer of lanes wakes a worker that sleeps.
 
 use crate::source::cubejobs_lanes::sides::LaneSide;
-use crate::source::kept_places::TRIES;
+use crate::source::cubejobs_lanes::tries::TRIES;
 use crate::source::wake_calls::Wake;
 
 impl LaneSide {

@@ -6,7 +6,7 @@ use crate::source::cubejobs_plan::answers::refused;
 use crate::source::cubejobs_plan::codes::{DONE, FULL, NOT_OPEN, OUT_OF_RANGE};
 use crate::source::cubejobs_plan::handle::Handle;
 use crate::source::cubejobs_plan::submitting::submit;
-use crate::source::sched_request::JobRequest;
+use crate::source::sched_core::JobRequest;
 
 /// Submits a job, which waits from now on.
 ///

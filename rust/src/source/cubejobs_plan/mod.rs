@@ -39,4 +39,4 @@ pub use look_exports::{cubejobs_plan_after, cubejobs_plan_counts, cubejobs_plan_
 pub use next_exports::cubejobs_plan_next;
 pub use open_exports::{cubejobs_plan_bytes, cubejobs_plan_close, cubejobs_plan_open_version};
 pub use options::Options;
-pub use crate::source::sched_request::JobRequest;
+pub use crate::source::sched_core::JobRequest;

@@ -4,8 +4,7 @@
 use crate::source::cubejobs_plan::answer::PlanJob;
 use crate::source::cubejobs_plan::answers::{answer_at_last, refused};
 use crate::source::cubejobs_plan::codes::{DONE, FULL, OUT_OF_RANGE};
-use crate::source::sched_core::{NEVER, Scheduler};
-use crate::source::sched_request::{JobRequest, is_askable, job_of};
+use crate::source::sched_core::{JobRequest, NEVER, Scheduler, is_askable, job_of};
 
 /// Submits a job.
 pub(crate) fn submit(scheduler: &mut Scheduler, request: JobRequest) -> PlanJob {

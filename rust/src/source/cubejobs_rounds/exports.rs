@@ -4,8 +4,7 @@
 use crate::source::cubejobs_rounds::answers::{CountAnswer, MessageAnswer, NO_RANK, StepAnswer, number_of};
 use crate::source::cubejobs_rounds::codes::{BAD_DIMENSION, BAD_NUMBER, BAD_RANK, BAD_ROOT, BAD_ROUND, BAD_SHAPE, DONE};
 use crate::source::cubejobs_rounds::shapes::{SHAPES, shape_at};
-use crate::source::collectives::{DIM_LIMIT, message_at};
-use crate::source::rank_steps::step;
+use crate::source::collectives::{DIM_LIMIT, message_at, step};
 
 // Returns `DONE` if the numbers name a collective and its root. Otherwise returns the fault, the
 // first of `BAD_SHAPE`, `BAD_DIMENSION` and `BAD_ROOT` that applies.

@@ -1,8 +1,9 @@
 // Made from crates/sched_blocks/src/blocks.rt by checks/lib/erase.py. Change that file.
 //! The blocks of a scheduler as a value.
 
+use crate::source::sched_blocks::ends::end_at;
 use crate::source::sched_blocks::nodes::{block_of, node_of, note_idle, note_use};
-use crate::source::block_trees::{end_at, is_earlier, open};
+use crate::source::sched_blocks::trees::{is_earlier, open};
 use crate::source::cube_shape::{MAX_BITMAP_DIM, Region};
 use crate::source::fit_tree::FitTree;
 use crate::source::kit::fixed_vec::{FixedVec, Store};

@@ -1,7 +1,8 @@
 // Made from crates/sched_blocks/src/nodes.rt by checks/lib/erase.py. Change that file.
 //! The nodes of blocks, and what both trees note of them.
 
-use crate::source::block_trees::{add_busy, drop_busy, set_end};
+use crate::source::sched_blocks::busy::{add_busy, drop_busy};
+use crate::source::sched_blocks::ends::set_end;
 use crate::source::cube_shape::{MAX_BITMAP_DIM, Region};
 use crate::source::kit::fixed_vec::FixedVec;
 

@@ -1,11 +1,13 @@
 // Made from crates/sched_board/src/board.rt by checks/lib/erase.py. Change that file.
 //! What threads share: the scheduler with its workers, and whether jobs may come.
 
+use crate::source::sched_board::pool::Pool;
 use crate::source::sched_board::sizes::ThreadSizes;
 use crate::source::sched_board::woken::{MOST_WOKEN, Woken};
+use crate::source::sched_board::workers::{MAX_WORKERS, PoolWorker};
 use crate::source::cube_shape::{MAX_BITMAP_DIM, Region};
 use crate::source::kit::fixed_vec::Store;
-use crate::source::sched_pool::{CLASSES, MAX_SLOTS, MAX_WORKERS, NEVER, Pool, PoolWorker, SchedJob, Scheduler};
+use crate::source::sched_core::{CLASSES, MAX_SLOTS, NEVER, SchedJob, Scheduler};
 use crate::source::kit::alloc::AllocError;
 
 /// Whether jobs may come, and whether those that wait may start.

@@ -5,8 +5,7 @@ use crate::source::sched_board::blocks::is_block;
 use crate::source::sched_board::board::{BoardPhase, BoardRefusal, JobBoard};
 use crate::source::sched_board::woken::Woken;
 use crate::source::cube_shape::Region;
-use crate::source::sched_pool::Place;
-use crate::source::sched_request::{JobRequest, is_askable, job_of};
+use crate::source::sched_core::{JobRequest, Place, is_askable, job_of};
 
 /// What follows from a call for workers.
 #[derive(Clone, Copy, Debug, PartialEq, Eq)]

@@ -4,7 +4,7 @@
 use crate::source::sched_board::board::{BoardPhase, JobBoard};
 use crate::source::sched_board::start::ThreadStart;
 use crate::source::sched_board::woken::Woken;
-use crate::source::sched_pool::PoolWorker;
+use crate::source::sched_board::workers::PoolWorker;
 
 /// What a worker knows of itself between its turns.
 #[derive(Clone, Copy, Debug, PartialEq, Eq, Hash)]

@@ -2,7 +2,8 @@
 //! A job that starts, as its worker sees it.
 
 use crate::source::sched_board::board::JobBoard;
-use crate::source::sched_pool::{Place, PoolWorker};
+use crate::source::sched_board::workers::PoolWorker;
+use crate::source::sched_core::Place;
 
 /// A job that starts.
 #[derive(Clone, Copy, Debug, PartialEq, Eq, Hash)]

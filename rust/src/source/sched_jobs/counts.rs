@@ -2,7 +2,8 @@
 //! How many slots are in lines.
 
 use crate::source::sched_jobs::lines::{CLASSES, LINES};
-use crate::source::wait_queue::{Queue, QueueNode, count_before};
+use crate::source::sched_jobs::nodes::QueueNode;
+use crate::source::sched_jobs::queues::{Queue, count_before};
 
 /// Returns the number of slots with a key below the bound in the lines from `first` on, up to
 /// `end`, which is left out.

@@ -3,6 +3,7 @@
 
 use crate::source::sched_jobs::line_table::LineTable;
 use crate::source::sched_jobs::lines::{CLASSES, DIMS};
+use crate::source::sched_jobs::nodes::MAX_SLOTS;
 use crate::source::sched_jobs::search::Wanted;
 use crate::source::sched_jobs::slots::{
     MAX_GENERATION, Slot, count_known, generation_at, is_present, next_present, place_at,
@@ -12,7 +13,6 @@ use crate::source::cube_shape::{MAX_BITMAP_DIM, Region};
 use crate::source::kit::fixed_vec::{FixedVec, Store};
 use crate::source::sched_law::{Place, SchedJob, SchedRun, SchedWait};
 use crate::source::kit::alloc::AllocError;
-use crate::source::wait_queue::MAX_SLOTS;
 
 /// The jobs of a scheduler for one thread.
 ///

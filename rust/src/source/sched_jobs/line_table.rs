@@ -5,12 +5,13 @@ use crate::source::sched_jobs::counts::{total, total_of_classes};
 use crate::source::sched_jobs::lines::{
     CLASSES, DIMS, LINES, join_line, key_at, leave_line, put_key, put_rank, rank_at,
 };
+use crate::source::sched_jobs::nodes::{MAX_SLOTS, QueueNode};
+use crate::source::sched_jobs::queues::Queue;
 use crate::source::sched_jobs::search::{Wanted, first_of_all};
 use crate::source::cube_shape::MAX_BITMAP_DIM;
 use crate::source::kit::fixed_vec::{FixedVec, Store};
 use crate::source::sched_law::{NEVER, SchedJob};
 use crate::source::kit::alloc::AllocError;
-use crate::source::wait_queue::{MAX_SLOTS, Queue, QueueNode};
 
 /// A queue for each class and dimension, over one node for each slot.
 pub struct LineTable {

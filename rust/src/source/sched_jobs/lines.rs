@@ -1,10 +1,9 @@
 // Made from crates/sched_jobs/src/lines.rt by checks/lib/erase.py. Change that file.
 //! Waiting slots in queues, one for each class and dimension.
 
+use crate::source::sched_jobs::nodes::QueueNode;
+use crate::source::sched_jobs::queues::{Queue, oldest, oldest_within, push, queues_rest_on_their_slots, remove};
 use crate::source::cube_shape::MAX_BITMAP_DIM;
-use crate::source::wait_queue::{
-    Queue, QueueNode, oldest, oldest_within, push, queues_rest_on_their_slots, remove,
-};
 
 /// The number of classes. The class of a job is below it.
 pub const CLASSES: u8 = 8;

@@ -4,8 +4,9 @@
 //! A search is a part of its callers, since each of them leaves out some of its cases.
 
 use crate::source::sched_jobs::lines::{CLASSES, DIMS, first_in_line, first_within, key_at};
+use crate::source::sched_jobs::nodes::QueueNode;
+use crate::source::sched_jobs::queues::Queue;
 use crate::source::cube_shape::MAX_BITMAP_DIM;
-use crate::source::wait_queue::{Queue, QueueNode};
 
 /// The jobs that a search looks for.
 #[derive(Clone, Copy)]

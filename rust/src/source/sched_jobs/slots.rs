@@ -1,10 +1,10 @@
 // Made from crates/sched_jobs/src/slots.rt by checks/lib/erase.py. Change that file.
 //! The slots of a table of jobs.
 
+use crate::source::sched_jobs::nodes::{MAX_SLOTS, QueueNode};
 use crate::source::cube_shape::Region;
 use crate::source::kit::fixed_vec::FixedVec;
 use crate::source::sched_law::{NEVER, Place, SchedJob, SchedRun, SchedWait};
-use crate::source::wait_queue::{MAX_SLOTS, QueueNode};
 
 /// The most jobs that a slot may have.
 pub const MAX_GENERATION: u64 = (1 << 40) - 1;

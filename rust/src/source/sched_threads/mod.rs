@@ -4,7 +4,7 @@
 //!
 //! A call that finds the lock taken does nothing, and says so. Each other call makes one *turn*: it
 //! changes what the threads share from one state to another. The turns of all threads form one
-//! sequence, and each is made of deeds of `sched_team`.
+//! sequence, and each is made of deeds of `sched_law`.
 
 pub(crate) mod block_calls;
 pub(crate) mod chair;

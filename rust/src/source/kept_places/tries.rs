@@ -1,6 +1,0 @@
-// Made from crates/kept_places/src/tries.rt by checks/lib/erase.py. Change that file.
-//! How long a call goes on.
-
-/// The number of rounds, and of lost exchanges in each, that a call makes before its caller is to
-/// call again.
-pub const TRIES: u32 = 64;

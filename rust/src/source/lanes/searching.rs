@@ -1,0 +1,165 @@
+// Made from crates/lanes/src/searching.rt by checks/lib/erase.py. Change that file.
+
+use crate::source::lanes::lanes::Lanes;
+use crate::source::lanes::record::LaneJob;
+use crate::source::lanes::rounds::{TakenAny, lane_after};
+use crate::source::lanes::rule::{FindJob, ReadDim, ReadHead, ReadPayload, ReadTail, Take};
+use crate::source::lanes::sizes::{HEAD, TAIL};
+use crate::source::lanes::sleeping::Sleeper;
+use crate::source::lanes::takes::{Taken, count_and_mark, set_tail};
+
+impl Lanes {
+    // Returns how many jobs of the lane were taken.
+    pub(crate) fn head_of(&self, sleeper: &mut Sleeper, lane: u32) -> u64 {
+        let head = self.word(lane, HEAD);
+        self.table.shared.load::<ReadHead>(&mut sleeper.seat, head)
+    }
+
+    // Returns how many jobs the worker knows to be accepted, if that is more than `head`. It goes
+    // by what it saw earlier, or reads the count. The error is whether the lane is closed.
+    pub(crate) fn count_of(&self, sleeper: &mut Sleeper, lane: u32, head: u64) -> Result<u64, bool> {
+        let known = sleeper.tails[lane as usize];
+        if head < known {
+            return Ok(known);
+        }
+        self.tail_of(sleeper, lane, head)
+    }
+
+    // Returns how many jobs were accepted, if that is more than `head`; or whether the lane is
+    // closed.
+    fn tail_of(&self, sleeper: &mut Sleeper, lane: u32, head: u64) -> Result<u64, bool> {
+        let tail = self.word(lane, TAIL);
+        let found = self.table.shared.load::<ReadTail>(&mut sleeper.seat, tail);
+        let (count, closed) = count_and_mark(found);
+        if count == head {
+            return Err(closed);
+        }
+        set_tail(&mut sleeper.tails, lane, count);
+        Ok(count)
+    }
+
+    // Returns what is in the cell for the payload of the job with the number `head`.
+    pub(crate) fn payload_of(&self, sleeper: &mut Sleeper, lane: u32, head: u64, cell: usize) -> u64 {
+        let word = self.word(lane, cell);
+        self.table
+            .shared
+            .load::<ReadPayload>(&mut sleeper.seat, word)
+    }
+
+    // Returns what is in the cell for the dimension of the job with the number `head`.
+    pub(crate) fn dim_of(&self, sleeper: &mut Sleeper, lane: u32, head: u64, cell: usize) -> u32 {
+        let word = self.word(lane, cell + 1);
+        let found = self.table.shared.load::<ReadDim>(&mut sleeper.seat, word);
+        (found % (1 << 32)) as u32
+    }
+
+    // Takes the job with the number `head` as the searcher, unless another worker has.
+    fn take_found(&self, sleeper: &mut Sleeper, lane: u32, job: LaneJob) -> bool {
+        let head = self.word(lane, HEAD);
+        let found = self
+            .table
+            .shared
+            .compare_exchange::<FindJob>(&mut sleeper.seat, head, job.seq, job.seq + 1);
+        found == job.seq
+    }
+
+    // The same as an idle worker.
+    pub(crate) fn take_idle(&self, sleeper: &mut Sleeper, lane: u32, job: LaneJob) -> bool {
+        let head = self.word(lane, HEAD);
+        let found = self
+            .table
+            .shared
+            .compare_exchange::<Take>(&mut sleeper.seat, head, job.seq, job.seq + 1);
+        found == job.seq
+    }
+
+    // The same by whether the worker is the searcher.
+    fn take_job(&self, sleeper: &mut Sleeper, lane: u32, job: LaneJob, searches: bool) -> bool {
+        if searches {
+            return self.take_found(sleeper, lane, job);
+        }
+        self.take_idle(sleeper, lane, job)
+    }
+
+    // Takes the job at the head of the lane, as the searcher or as an idle worker.
+    #[inline(always)]
+    pub(crate) fn take_as(&self, sleeper: &mut Sleeper, lane: u32, searches: bool) -> Taken {
+        let head = self.head_of(sleeper, lane);
+        match self.count_of(sleeper, lane, head) {
+            Err(true) => Taken::Ended,
+            Err(false) => Taken::Empty,
+            Ok(count) => {
+                let cell = self.cell(head);
+                let payload = self.payload_of(sleeper, lane, head, cell);
+                let dim = self.dim_of(sleeper, lane, head, cell);
+                let job = LaneJob {
+                    seq: head,
+                    payload,
+                    dim,
+                };
+                if self.take_job(sleeper, lane, job, searches) {
+                    Taken::Job(job, count - head - 1)
+                } else {
+                    Taken::Lost
+                }
+            }
+        }
+    }
+
+    /// Takes the job at the head of the lane, as the searcher. With a job it has found work, and
+    /// ends its search next (`leave`).
+    ///
+    /// # Clauses of the proved source
+    ///
+    /// - requires id: `sleeper.old.id ≡ self.now`
+    /// - requires phase: `sleeper.old.phase ≡ Searching`
+    /// - requires lane: `lane < self.now.plan.sizes.lanes`
+    /// - ensures id: `sleeper.new.id ≡ self.now`
+    /// - ensures deeds: `sleeper.new.deeds ≡ sleeper.old.deeds`
+    /// - ensures phase: `sleeper.new.phase ≡ taken_phase true result`
+    /// - ensures only: `ChangesOnly lane sleeper.old.known sleeper.new.known`
+    /// - ensures takes: `Takes (take_of lane sleeper.old.known) result (take_of lane sleeper.new.known)`
+    /// - ensures steps: `(take_of lane sleeper.new.known).steps ≤ (take_of lane sleeper.old.known).steps + call_steps`
+    pub fn search(&self, sleeper: &mut Sleeper, lane: u32) -> Taken {
+        self.take_as(sleeper, lane, true)
+    }
+
+    // Takes a job of one lane in a round. `all_ended` is whether all lanes so far had ended.
+    #[inline(always)]
+    fn try_lane(
+        &self,
+        sleeper: &mut Sleeper,
+        lane: u32,
+        searches: bool,
+        all_ended: &mut bool,
+    ) -> Option<(LaneJob, u64)> {
+        match self.take_as(sleeper, lane, searches) {
+            Taken::Job(job, left) => Some((job, left)),
+            Taken::Ended => None,
+            Taken::Empty | Taken::Lost => {
+                *all_ended = false;
+                None
+            }
+        }
+    }
+
+    // Takes the job at the head of the first lane where it can, in one round of all lanes from the
+    // lane `from` on.
+    #[inline(always)]
+    pub(crate) fn take_round(&self, sleeper: &mut Sleeper, from: u32, searches: bool) -> TakenAny {
+        let mut lane = from;
+        let mut all_ended = true;
+        let mut turn = 0;
+        while turn < self.plan.sizes.lanes {
+            if let Some((job, left)) = self.try_lane(sleeper, lane, searches, &mut all_ended) {
+                return TakenAny::AnyJob(lane, job, left);
+            }
+            lane = lane_after(lane, self.plan.sizes.lanes);
+            turn += 1;
+        }
+        if all_ended {
+            return TakenAny::AllEnded;
+        }
+        TakenAny::NoJob
+    }
+}
