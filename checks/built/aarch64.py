@@ -16,16 +16,16 @@ import subprocess
 import tempfile
 
 from checks.built import archive, beside, release
-from checks.lib.c_programs import CALLS, FIT, LANES, PLAN, REGIONS, ROUNDS, SCHED, SECONDS, Program, must_run
+from checks.lib.c_programs import CALLS, FIT, LANES, LIBRARIES, PLAN, REGIONS, ROUNDS, SCHED, SECONDS, Program, must_run
 from checks.lib.repository import path, read_bytes, version_of_sources
 from checks.lib.rows import Row, Skipped, answer, must, needs, output, put, run_rows
 from checks.lib.toolchain import build_below, crates, kit, sum_of_sources
 from tests.install.tables import IN_RUST
 
 RELEASE, TRIPLE, PROGRAM = release.AARCH64, "aarch64-unknown-linux-gnu", "jobs_cli"
-LIBRARIES, COMPILER, EMULATOR = "/usr/aarch64-linux-gnu", "aarch64-linux-gnu-gcc", "qemu-aarch64"
+CROSS, COMPILER, EMULATOR = "/usr/aarch64-linux-gnu", "aarch64-linux-gnu-gcc", "qemu-aarch64"
 # With the C library of the cross packages, also where this system has one of its own for aarch64.
-WITH_LIBRARIES = [EMULATOR, "-E", f"LD_LIBRARY_PATH={LIBRARIES}/lib", "-L", LIBRARIES]
+WITH_LIBRARIES = [EMULATOR, "-E", f"LD_LIBRARY_PATH={CROSS}/lib", "-L", CROSS]
 PACKAGES = ("libc6-arm64-cross", "libc6-dev-arm64-cross", "libgcc-s1-arm64-cross")
 # What the linker of the toolchain looks for, of the C library and of the compiler.
 OF_LIBC = ("Scrt1.o", "crti.o", "crtn.o", "libc_nonshared.a", "libc.so.6", "libm.so.6", "libgcc_s.so.1",
@@ -47,7 +47,7 @@ def toolchain(room):
     os.makedirs(lib)
     os.symlink(f"{kit().KIT}/toolchain/bin", tools)
     for name in OF_LIBC:
-        os.symlink(f"{LIBRARIES}/lib/{name}", f"{lib}/{name}")
+        os.symlink(f"{CROSS}/lib/{name}", f"{lib}/{name}")
     for name in OF_GCC:
         os.symlink(output([COMPILER, f"-print-file-name={name}"]).strip(), f"{lib}/{name}")
     return f"{room}/toolchain"
@@ -83,7 +83,7 @@ def build(folder):
         heap, system = helpers(room)
         for name in LIBRARIES:
             compile_crate(known[name], f"{room}/{name}.a")
-        archive.make_all(archive.System(f"{room}/{{name}}.a", heap, f"{LIBRARIES}/lib/libc.so.6"), folder)
+        archive.make_all(archive.System(f"{room}/{{name}}.a", heap, f"{CROSS}/lib/libc.so.6"), folder)
         compile_crate(known[PROGRAM], f"{room}/program.o")
         words = ["--target", TRIPLE, "--toolchain", toolchain(room), "-o", f"{folder}/cubejobs"]
         subprocess.run([f"{kit().KIT}/bin/rattle-link", *words, f"{room}/program.o", system, heap], check=True)

@@ -52,7 +52,7 @@ console.log(BigInt.asUintN(64, instance.exports.selftest()).toString());"""
 
 # The driver, what it uses, and how many steps its interpreter makes at most.
 DRIVER, STEPS = "tests/driver", 5 * 10**9
-USED = "bitmap_occupancy bitmap_tree collectives cube_shape cubejobs_fit fit_tree job_lanes rank_steps wake_calls"
+USED = "bitmap_occupancy bitmap_tree collectives cube_shape cubejobs_fit fit_tree lanes wake_calls"
 
 
 def built(root, folder, source=PROGRAM, more=()):

@@ -36,13 +36,12 @@ from checks.lib.rows import Row, answer, must, needs, put, run_rows
 from checks.lib.toolchain import AFTER_GATE, FOR_ANY
 from tests.examples import event_loop, pinjobs
 
-OF_REGIONS = ("cube_shape", "region_bits", "bitmap_tree", "bitmap_occupancy", "hidden_box")
-OF_ROUNDS = ("collectives", "cube_shape", "rank_steps")
-OF_PLAN = ("cube_shape", "fit_tree", "block_trees", "wait_queue", "sched_blocks", "sched_jobs", "sched_core",
-           "sched_request", "hidden_box")
-OF_SCHED = (*OF_PLAN, "sched_law", "sched_pool", "sched_board", "sched_threads")
-OF_LANES = ("hidden_box", "job_lanes", "kept_places", "wake_calls", "wake_pool")
-BELOW = {FIT: ("cube_shape", "fit_tree", "region_bits"), PLAN: OF_PLAN, SCHED: OF_SCHED, LANES: OF_LANES,
+OF_REGIONS = ("cube_shape", "alloc_bits", "bitmap_tree", "bitmap_occupancy", "hidden_box")
+OF_ROUNDS = ("collectives", "cube_shape")
+OF_PLAN = ("cube_shape", "fit_tree", "sched_blocks", "sched_jobs", "sched_core", "hidden_box")
+OF_SCHED = (*OF_PLAN, "sched_law", "sched_board", "sched_threads")
+OF_LANES = ("hidden_box", "lanes", "wake_calls", "wake_pool")
+BELOW = {FIT: ("cube_shape", "fit_tree", "alloc_bits"), PLAN: OF_PLAN, SCHED: OF_SCHED, LANES: OF_LANES,
          REGIONS: OF_REGIONS, ROUNDS: OF_ROUNDS}
 # What the names of rows begin with that look into archives.
 OF_ARCHIVES = ("names of its own", "the Rust package")

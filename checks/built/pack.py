@@ -6,8 +6,10 @@ and compares them to the byte. It installs from the tarball alone. `checks/run p
 files of release/. They are small and made at will, so the repository does not keep them.
 """
 import gzip
+import io
 import os
 import re
+import shutil
 import subprocess
 import tarfile
 import tempfile
@@ -15,7 +17,10 @@ import tempfile
 from checks.lib.clones import clone_with, tree
 from checks.lib.repository import ROOT, path, read, version_of_sources, write
 from checks.lib.rows import Row, answer, must, needs, run_rows
+from checks.source import surface
 
+# The public contracts and the definitions that they cite, in a page that is made from the sources.
+CONTRACTS = "docs/CONTRACTS.md"
 # What the tarball has, of the files that git knows.
 PARTS = ("CHANGELOG.md", "README.md", "SECURITY.md", "completions", "docs", "examples", "include", "install", "python",
          "release", "rust", "view")
@@ -54,19 +59,28 @@ def files(clone):
     return sorted(it for it in found if not re.search(r"(^|/)(target|mutants|__pycache__)/|^rust/lib/.*\.tmp$", it))
 
 
+def put(tar, it, data):
+    """Puts a file into a tarball, with this data and as nobody's in particular."""
+    it.uid = it.gid = 0
+    it.uname = it.gname = "root"
+    it.mtime, it.mode = date(), 0o755 if it.mode & 0o100 else 0o644
+    tar.addfile(it, data)
+
+
 def tarball(clone, out):
-    """Writes the tarball, and returns its path. Its bytes depend on the files alone."""
+    """Writes the tarball, and returns its path. Its bytes depend on the files alone. It has CONTRACTS too, which no
+    clone has."""
     name = f"cubejobs-{version_of_sources()}"
     made = os.path.join(out, f"{name}-linux.tar.gz")
     with open(made, "wb") as raw, gzip.GzipFile("", "wb", 9, raw, 0) as packed, \
             tarfile.open(fileobj=packed, mode="w", format=tarfile.PAX_FORMAT) as tar:
         for file in files(clone):
-            it = tar.gettarinfo(os.path.join(clone, file), f"{name}/{file}")
-            it.uid = it.gid = 0
-            it.uname = it.gname = "root"
-            it.mtime, it.mode = date(), 0o755 if it.mode & 0o100 else 0o644
             with open(os.path.join(clone, file), "rb") as data:
-                tar.addfile(it, data)
+                put(tar, tar.gettarinfo(os.path.join(clone, file), f"{name}/{file}"), data)
+        page = "".join(surface.Surface().page()).encode()
+        it = tarfile.TarInfo(f"{name}/{CONTRACTS}")
+        it.size = len(page)
+        put(tar, it, io.BytesIO(page))
     return made
 
 
@@ -119,14 +133,16 @@ def same_twice(make, clone, work, *words):
 
 
 def installs_from_a_tarball(clone, work):
-    """Sees that the tarball has all that an installation needs, and makes what a clone makes."""
+    """Sees that the tarball has all that an installation needs, and makes what a clone with CONTRACTS makes."""
     places = []
     room = os.path.join(work, "unpacked")
     os.makedirs(room)
     with tarfile.open(tarball(clone, room)) as it:
         # Not each Python 3.11 has this filter.
         it.extractall(room, **({"filter": "data"} if hasattr(tarfile, "data_filter") else {}))
-    for top in (clone, os.path.join(room, f"cubejobs-{version_of_sources()}")):
+    unpacked = os.path.join(room, f"cubejobs-{version_of_sources()}")
+    shutil.copy(os.path.join(unpacked, CONTRACTS), os.path.join(clone, CONTRACTS))
+    for top in (clone, unpacked):
         places.append(os.path.join(work, f"installed{len(places)}"))
         status, _, said = answer([os.path.join(top, "install"), "--prefix", "/p", "--destdir", places[-1]], "",
                                  text=True)

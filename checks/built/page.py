@@ -321,7 +321,7 @@ def pictures(built, schedules):
     asked = [{"text": one.text, "event": one.event, "n": one.n} for one in schedules]
     asked += [{"text": read("examples", "events.csv"), "event": 30, "n": 4},
               {"text": held, "event": len(parts(held)[0]), "n": 2, "way": WAY}]
-    names = [(os.path.basename(one.name), "docs/TREE.md", "pictures") for one in schedules]
+    names = [(os.path.basename(one.name), "docs/ALGORITHM.md", "pictures") for one in schedules]
     names += [("events", "docs/GUIDE.md", "pictures"), ("way", "README.md", "docs/pictures")]
     for (name, document, folder), drawn in zip(names, in_page(body, asked)):
         for theme, text in zip(("light", "dark"), drawn):
@@ -329,10 +329,10 @@ def pictures(built, schedules):
 
 
 def check_pictures(built, schedules, draws):
-    """Sees that the documents have the pictures that the page draws, and docs/TREE.md each schedule's command line."""
+    """Sees that the documents have the pictures that the page draws, and docs/ALGORITHM.md each schedule's command line."""
     for one in schedules:
         command = f"$ ./cubejobs {one.words} < examples/{one.name}.csv\n"
-        expect(command in read("docs/TREE.md"), f"docs/TREE.md: {command.strip()}")
+        expect(command in read("docs/ALGORITHM.md"), f"docs/ALGORITHM.md: {command.strip()}")
     wanted = set()
     for name, document, folder, text in pictures(built, schedules):
         expect(f'="{folder}/{name}"' in read(document), f"{document}: the picture {name}")

@@ -24,7 +24,7 @@ READERS = {
 SECONDS = 120
 MOST_LINES = 130
 # How many commands are shown at least: a document that shows fewer is not read right.
-LEAST_COMMANDS = {"README.md": 4, "docs/TREE.md": 7}
+LEAST_COMMANDS = {"README.md": 4, "docs/ALGORITHM.md": 7}
 
 
 def commands(document):

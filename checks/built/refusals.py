@@ -1,8 +1,8 @@
 """Refuses memory to single calls of the libraries, and looks at what comes back.
 
-The programs `cube_bench memory`, `bitmap_trial memory` and `lane_bench memory` make calls one after the other, and
-after each they write a line: the call's name, and what came back. Each request for memory is refused in turn, then each
-and the two after it, then each and all after it. A call must say OutOfMemory exactly where one of its own requests was
+The programs `cube_bench` and `library_bench` make calls one after the other, and after each they write a line: the
+call's name, and what came back. Each request for memory is refused in turn, then each and the two after it, then each
+and all after it. A call must say OutOfMemory exactly where one of its own requests was
 refused, and give back what it got: all items of a job, all stations of a cube, all replies that a worker has. A call
 that is to take no memory makes no request. In the end the program holds as many blocks of memory as in the beginning.
 `checks/run refusals FILE` tries FILE, which has the name of one of them.
@@ -15,7 +15,7 @@ from checks.lib.rows import Row, Wrong, answer, must, run_rows
 from checks.lib.toolchain import shim
 
 BUILT = "crates/{0}/out/{0}".format
-BENCH, TRIAL, LANES = "cube_bench", "bitmap_trial", "lane_bench"
+BENCH, OF_LIBRARIES = "cube_bench", "library_bench"
 # A run that takes longer, in seconds, hangs.
 SECONDS = 20
 # How many requests are refused in a row: one alone, three, and all from the first one on.
@@ -27,16 +27,16 @@ REFUSED = " OutOfMemory"
 REST = 99
 ITEMS = [("items", " 4 7 1 8", "", 1), ("Job::new", " 4 7 1 8", " 4 7 1 8", 0)]
 RUNS = {
-    (BENCH, "cube"): [("Cube::open", " 0 1 2", "", REST), ("Solo::new", " 0", " 0 1 2", REST)],
-    (BENCH, "items"): ITEMS * 5,
-    (BENCH, "files"): [(f"read_{name}", " 9", " 0", 0) for name in ("jobs", "place", "schedule")],
+    (BENCH, "memory", "cube"): [("Cube::open", " 0 1 2", "", REST), ("Solo::new", " 0", " 0 1 2", REST)],
+    (BENCH, "memory", "items"): ITEMS * 5,
+    (BENCH, "memory", "files"): [(f"read_{name}", " 9", " 0", 0) for name in ("jobs", "place", "schedule")],
     # A machine of dimension 10 has 17 words, and its first block of 32 processors begins at 0.
-    (TRIAL,): [
+    (OF_LIBRARIES, "block_memory"): [
         ("open", " 10", "", 2), ("take_quick", " 0", None, 0), ("close", " 17", None, 0),
         ("open_with_permits", " 3", "", 1), ("close_with_permits", " 17", None, 0),
     ],
     # A job is submitted to the first of two lanes.
-    (LANES,): [("Lanes::open", " 2", "", 2), ("deal_worker", " 0", "", 1), ("into_rest", " 1", None, 0)],
+    (OF_LIBRARIES, "job_memory"): [("Lanes::open", " 2", "", 2), ("deal_worker", " 0", "", 1), ("into_rest", " 1", None, 0)],
 }
 
 
@@ -52,8 +52,8 @@ def shop_calls(count):
     ]
 
 
-SHOPS = ("free", "bitmaps", "locked")
-RUNS.update({(BENCH, "shop", shop, str(jobs)): shop_calls(jobs) for shop in SHOPS for jobs in (3, 4, 9)})
+SHOPS = ("free", "locked")
+RUNS.update({(BENCH, "memory", "shop", shop, str(jobs)): shop_calls(jobs) for shop in SHOPS for jobs in (3, 4, 9)})
 
 
 def told(out):
@@ -127,12 +127,12 @@ def try_each(command, shims, calls):
 
 def main(words):
     named = {os.path.basename(word): os.path.realpath(word) for word in words}
-    programs = named or {name: path(BUILT(name)) for name in (BENCH, TRIAL, LANES)}
+    programs = named or {name: path(BUILT(name)) for name in (BENCH, OF_LIBRARIES)}
     for name, built in programs.items():
         must(os.path.exists(built), f"{name} is not built: cd crates/{name} && rt run")
     with tempfile.TemporaryDirectory() as folder:
         shims = shim("refuse.c", folder)
         runs = [(of, programs[of[0]], calls) for of, calls in RUNS.items() if of[0] in programs]
-        rows = [Row(f"{of[0]} memory {' '.join(of[1:])}".strip(), try_each, ([built, "memory", *of[1:]], shims, calls))
+        rows = [Row(" ".join(of), try_each, ([built, *of[1:]], shims, calls))
                 for of, built, calls in runs]
         return run_rows("refusals", rows, says_ok=True)

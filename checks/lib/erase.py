@@ -27,10 +27,9 @@ from checks.lib.token_trees import Unknown, parsed, shown
 
 # The erased crates, each after those that it uses. They are modules of `crate::source`.
 CRATES = (
-    "release_version", "cube_shape", "fit_tree", "cubejobs_fit", "collectives", "rank_steps", "cubejobs_rounds", "bitmap_tree",
-    "bitmap_occupancy", "cubejobs_regions", "wake_pool", "wake_calls", "job_lanes", "kept_places", "cubejobs_lanes",
-    "sched_law", "block_trees", "wait_queue", "sched_blocks", "sched_jobs", "sched_core", "sched_request", "cubejobs_plan",
-    "sched_pool", "sched_board", "sched_threads", "cubejobs_sched")
+    "release_version", "cube_shape", "fit_tree", "cubejobs_fit", "collectives", "cubejobs_rounds", "bitmap_tree",
+    "bitmap_occupancy", "cubejobs_regions", "wake_pool", "wake_calls", "lanes", "cubejobs_lanes", "sched_law",
+    "sched_blocks", "sched_jobs", "sched_core", "cubejobs_plan", "sched_board", "sched_threads", "cubejobs_sched")
 # The crates of the tree of status words, and the collectives as a whole. Only the check `steps` erases them, without
 # the pure machine, the text and the flags of a word.
 TREE = ("status_word", "cube_core", "tree_steps", "cube_tree", "collectives")
@@ -44,7 +43,7 @@ LEFT_OUT = (
 NO_TREE = ("status_word/use_bits", "cube_core/act", "cube_core/effect", "cube_core/world", "collectives/padding")
 # Modules that no other erased one uses.
 UNUSED = (*(f"collectives/{it}" for it in ("collective", "monoid", "operations", "padding", "rounds")), "sched_law/law",
-          "sched_threads/law")
+          "sched_law/team_law",           "sched_threads/law")
 # Modules of a crate that only some features of the package need, with the condition.
 GATED = {"fit_tree/fit": 'any(feature = "plan", feature = "sched")'}
 # Files with raw pointers, and the module and the type of what each points to. Each has the type below instead, of the

@@ -10,10 +10,10 @@ MUTANTS = "mutants"
 PARTS = ("src", "specs", "proofs")
 # The crates on which nobody builds: callers, programs, measurements and tests.
 NO_LIBRARIES = (
-    "uses", "jobs_cli", "cube_bench", "tests_kit", "tests_bitmap", "bitmap_trial", "tests_files", "tests_tools",
-    "tests_lanes", "lane_bench")
+    "uses", "jobs_cli", "locked_peers", "cube_bench", "library_bench", "tests_kit", "tests_bitmap", "tests_files",
+    "tests_lanes")
 VERSION_SOURCE = "crates/release_version/src/lib.rt"
-LIMITS = ("crates/cube_shape/src/limits.rt", "crates/region_bits/src/limits.rt", "crates/job_lanes/src/sizes.rt")
+LIMITS = ("crates/cube_shape/src/limits.rt", "crates/alloc_bits/src/limits.rt", "crates/lanes/src/sizes.rt")
 
 
 def path(*names):

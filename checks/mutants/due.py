@@ -10,6 +10,7 @@ import datetime
 import hashlib
 import os
 
+from checks.source.contracts import contracts
 from checks.lib.crates import uses_of
 from checks.lib.repository import PARTS, files_below, path, read, read_bytes, write
 
@@ -20,11 +21,12 @@ def sum_of(crate):
     """Returns the sum of what the verdicts on a crate's mutants stand on."""
     files = [file for part in PARTS for file in files_below(f"crates/{crate}/{part}")]
     files += files_below(f"mutants/{crate}", ".edit")
-    for below in sorted(uses_of(crate)):
-        files += [*files_below(f"crates/{below}/specs"), *files_below(f"crates/{below}", "CALLING.md")]
+    files += [file for below in sorted(uses_of(crate)) for file in files_below(f"crates/{below}/specs")]
     total = hashlib.sha256()
     for file in files:
         total.update(os.path.relpath(file, path()).encode() + b"\0" + read_bytes(file) + b"\0")
+    for below in sorted(uses_of(crate)):
+        total.update(contracts(below).encode() + b"\0")
     return total.hexdigest()[:16]
 
 

@@ -1,10 +1,10 @@
 """Tests `edits`, which judges mutants, and the reader of sources under it: mutants of known verdicts must be told so.
 
-Of `region_bits` one is a mutant; one changes nothing, in a function that calls the wrong one, so that it is hidden
+Of `alloc_bits` one is a mutant; one changes nothing, in a function that calls the wrong one, so that it is hidden
 in their common check; one has a name that does not exist, so that the front end refuses the check of all; one is right,
 and only the proof misses a name; one is stale. Three stand in functions that hold another one, so each pair has a copy.
 Two of `backoff` stand in the same check, and neither crate's verdicts are the other's. Two of a definition name the
-function that is proved over it, of which one does not read it. Two of `wait_queue` stand in a function that calls
+function that is proved over it, of which one does not read it. Two of `sched_jobs` stand in a function that calls
 itself, of which no copy is proved. Words given here are passed on to `edits`.
 """
 import os
@@ -24,20 +24,20 @@ TREES, ALONE, LEAF = "src/trees.rt", "return fork.right;", "if is_leaf_of(fork.r
 NONE, WROTE, FOUND = "none_set(&bits[start..end])", "write(bits, n, region, true);", "return Some(region);"
 # By crate and name: file, old text, new text, the verdict, and the function that is proved over a definition.
 PLANTED = {
-    "region_bits/wrong_body": (BITS, FILL, "bits[start..end].fill(!taken);", "refused"),
-    "region_bits/hidden_and_unchanged": ("src/regions.rt", WROTE, WROTE, "PROVED"),
-    "region_bits/unknown_name": (BITS, FOUND, "return Some(no_such_region);", "BAD"),
-    "region_bits/right_by_another_way": (BITS, NONE, "bits[start..end].iter().all(|taken| !*taken)", "NAMES"),
-    "region_bits/second_wrong_body": (BITS, FILL, "bits[start..end].fill(false);", "refused"),
-    "region_bits/second_and_unchanged": (BITS, FOUND, FOUND, "PROVED"),
-    "region_bits/second_by_the_same_way": (BITS, NONE, NONE, "PROVED"),
-    "region_bits/stale": (BITS, "bits.fill(no_such_text);", "bits.fill(true);", "BAD"),
-    "region_bits/wrong_definition": (MEANING, MEANS, MEANS.replace("true", "false"), "refused", "regions::set_region"),
-    "region_bits/definition_not_read": (MEANING, MEANS, MEANS.replace("true", "false"), "PROVED", "bits::none_set"),
+    "alloc_bits/wrong_body": (BITS, FILL, "bits[start..end].fill(!taken);", "refused"),
+    "alloc_bits/hidden_and_unchanged": ("src/regions.rt", WROTE, WROTE, "PROVED"),
+    "alloc_bits/unknown_name": (BITS, FOUND, "return Some(no_such_region);", "BAD"),
+    "alloc_bits/right_by_another_way": (BITS, NONE, "bits[start..end].iter().all(|taken| !*taken)", "NAMES"),
+    "alloc_bits/second_wrong_body": (BITS, FILL, "bits[start..end].fill(false);", "refused"),
+    "alloc_bits/second_and_unchanged": (BITS, FOUND, FOUND, "PROVED"),
+    "alloc_bits/second_by_the_same_way": (BITS, NONE, NONE, "PROVED"),
+    "alloc_bits/stale": (BITS, "bits.fill(no_such_text);", "bits.fill(true);", "BAD"),
+    "alloc_bits/wrong_definition": (MEANING, MEANS, MEANS.replace("true", "false"), "refused", "regions::set_region"),
+    "alloc_bits/definition_not_read": (MEANING, MEANS, MEANS.replace("true", "false"), "PROVED", "bits::none_set"),
     "backoff/wrong_body": ("src/pause.rt", "if burst <= LONGEST_BURST {", "if burst <= 2 * LONGEST_BURST {", "refused"),
     "backoff/unchanged": ("src/pause.rt", "burst: FIRST_BURST,", "burst: FIRST_BURST,", "PROVED"),
-    "wait_queue/a_wrong_body": (TREES, ALONE, ALONE.replace("right", "left"), "refused"),
-    "wait_queue/another_and_unchanged": (TREES, LEAF, LEAF, "PROVED"),
+    "sched_jobs/a_wrong_body": (TREES, ALONE, ALONE.replace("right", "left"), "refused"),
+    "sched_jobs/another_and_unchanged": (TREES, LEAF, LEAF, "PROVED"),
 }
 WRONG = "backoff/wrong_body"
 # A missing name, as a check reports it in one line and, where it lists names that are near, in two.
@@ -76,7 +76,7 @@ EVENTS = (
 def judged(folder, *words):
     """Returns the status of `edits`, which keeps verdicts in the folder, and what it says of each mutant there."""
     env = {**os.environ, "XDG_CACHE_HOME": f"{folder}/cache"}
-    command = [path("checks", "run"), "edits", "--from", folder, *words, "region_bits", "backoff", "wait_queue"]
+    command = [path("checks", "run"), "edits", "--from", folder, *words, "alloc_bits", "backoff", "sched_jobs"]
     status, said, _ = answer(command, "", text=True, env=env, stderr=None, timeout=None)
     return status, dict(re.findall(r"(?m)^(\w+/\S+): (\w+): ", said)), said
 
@@ -90,7 +90,7 @@ def plant(folder):
 def of_the_reader():
     """Yields what is expected of the reader, whether it holds, and what was found."""
     for said in MISSING:
-        yield "a missing name is no goal", NAMES_ONLY.match(lines_of(said, "region_bits")[0]), said
+        yield "a missing name is no goal", NAMES_ONLY.match(lines_of(said, "alloc_bits")[0]), said
     for text, wanted in SOURCES.items():
         found = [(it.owner, text[it.start : it.end]) for it in functions_in("src/lib.rt", text)]
         yield "a function ends with its body", found == wanted, found
@@ -107,10 +107,13 @@ def of_the_reader():
 def of_all(folder, words):
     """Yields the same of the verdicts on all mutants."""
     status, told, said = judged(folder, "--stale")
-    yield "a stale mutant fails before any check", status == 1 and told == {"region_bits/stale": "BAD"}, said
+    yield "a stale mutant fails before any check", status == 1 and told == {"alloc_bits/stale": "BAD"}, said
     _, _, said = judged(folder, "--plan")
     first = re.findall(r"(?m)^check 1: (\w+): ", said)
-    yield "crates beside one another share a check", sorted(first) == ["backoff", "region_bits", "wait_queue"], said
+    yield "crates beside one another share a check", sorted(first) == ["alloc_bits", "backoff"], said
+    turns = [set(re.findall(rf"(?m)^check {it}: (\w+): ", said)) for it in range(1, 6)]
+    apart = [it for it in turns if "sched_jobs" in it]
+    yield "crates above one another share none", apart and all(it == {"sched_jobs"} for it in apart), said
     status, told, said = judged(folder, *words)
     yield "mutants that are not refused fail", status == 1, said
     for name, (_, _, _, wanted, *_) in PLANTED.items():

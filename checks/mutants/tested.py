@@ -18,7 +18,7 @@ from checks.lib.rows import Row, answer, must, run_rows
 from checks.mutants.mutant import Edit, texts_of
 
 CRATE, TESTS = "bitmap_tree", "bitmap"
-COPIED = ("cube_shape", "ghost_history", "region_bits", "bitmap_occupancy", "fixed_vec", "fit_tree", "tests_bitmap",
+COPIED = ("cube_shape", "ghost_history", "alloc_bits", "bitmap_occupancy", "fixed_vec", "fit_tree", "tests_bitmap",
           CRATE)
 SECONDS = 3600
 # The most seconds that a test may take: with a wrong hint it may search for long.

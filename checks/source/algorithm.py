@@ -67,7 +67,7 @@ def searches(*dims):
 
 def schedules():
     """Returns the lines of each schedule of examples/ on a small machine, with the machine's size."""
-    sizes = re.findall(rf"replay --dim (\d+) --stations (\d+) < ({SCHEDULES}/\S+)", read("docs", "TREE.md"))
+    sizes = re.findall(rf"replay --dim (\d+) --stations (\d+) < ({SCHEDULES}/\S+)", read("docs", "ALGORITHM.md"))
     return {name: (int(n), int(stations), read(name).split()[1:]) for n, stations, name in sizes}
 
 

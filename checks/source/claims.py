@@ -29,7 +29,7 @@ PROMISES = re.compile(r"\b(?:proved|proves|never|each|at most)\b", re.I)
 PLAIN = ("a duty", "a description")
 # Where tests are: files whose text or name has the function or the file of a test.
 TESTS = ("checks", "rust/tests", "rust/pool/tests", "tests", "crates/tests_bitmap",
-         "crates/tests_lanes", "crates/tests_files", "crates/tests_tools", "python")
+         "crates/tests_lanes", "crates/tests_files", "python")
 
 
 def sentences(file, text):

@@ -1,21 +1,22 @@
-"""Compares crates.txt with the pages that draw and list the crates.
+"""Compares crates.txt, the map of the crates, with what is made from it and with the pages that draw and list them.
 
-- A crate of crates.txt uses only crates above its own line: those of its own part, and those of the parts before it.
-- docs/ARCHITECTURE.md draws each crate once, as the part of a box. A crate uses what its row or a lower one has, or
-  the crate of a contract that it meets. The table below the drawing has each crate once, in the order of crates.txt.
-- docs/STATUS.md has its sections in this order too.
+- crates.txt has a comment above each crate, which says what it has. A crate uses only crates above its own line: those of
+  its own part, and those of the parts before it.
+- crates/README.md is the same as a list with links. `checks/run layers --write` writes it.
+- docs/ARCHITECTURE.md draws each crate once, in at most 30 lines. A crate uses what its row or a lower one has.
+- docs/STATUS.md has its rows in the order of crates.txt.
 - docs/ADDING.md names each library for C where it says what a call of one takes.
-
-`checks/run layers` reads this repository.
 """
 import re
 
-from checks.lib.repository import crate_names, read
+from checks.lib.repository import crate_names, read, write
 from checks.lib.rows import blind, print_faults
 
-CRATES, DRAWN, STATUS, ADDING = "crates.txt", "docs/ARCHITECTURE.md", "docs/STATUS.md", "docs/ADDING.md"
+CRATES, LIST, DRAWN = "crates.txt", "crates/README.md", "docs/ARCHITECTURE.md"
+STATUS, ADDING, MOST_LINES = "docs/STATUS.md", "docs/ADDING.md", 30
 PART = re.compile(r"^# ---- (.*?) ----$", re.M)
 LINE = re.compile(r"^(\w+)((?: [^\s:]+)*):(.*)$", re.M)
+SAID = re.compile(r"^# (.*)\n(\w+)(?: [^\s:]+)*:", re.M)
 # Numbers by their words.
 NUMBERS = "zero one two three four five six seven eight nine ten eleven twelve".split()
 
@@ -43,16 +44,34 @@ def faults_of_parts(text):
         yield f"{CRATES}: there are {NUMBERS[len(parts)]} parts, and its head says {said[1] if said else 'nothing'}"
 
 
+def list_of(text):
+    """Yields the lines of crates/README.md."""
+    says = {crate: said for said, crate in SAID.findall(text)}
+    yield "# The crates\n\nIn each part the lowest crate comes first. A crate uses only crates above it.\n"
+    yield "[Architecture](../docs/ARCHITECTURE.md) draws them.\n"
+    for name, crates in parts_of(text):
+        yield f"\n## {name[0].upper()}{name[1:]}\n\n| Crate | It has |\n|---|---|\n"
+        yield from (f"| [`{it}`]({it}) | {says.get(it, '')} |\n" for it, _, _ in crates)
+    yield "\n<!-- All is written by checks/run layers --write, from crates.txt. -->\n"
+
+
+def faults_of_list(text, shown):
+    """Yields each crate of which crates.txt does not say what it has, and whether the list is stale."""
+    says = {crate for _, crate in SAID.findall(text)}
+    yield from (f"{CRATES}: no comment says what {it} has" for _, part in parts_of(text) for it, _, _ in part if it not in says)
+    if shown != "".join(list_of(text)):
+        yield f"{LIST} is stale: checks/run layers --write renews it"
+
+
 def rows_of(drawing, crates):
-    """Returns of each crate the numbers of the rows of a drawing that name it, and of each contract its crate."""
-    rows, contracts, row = {it: [] for it in crates}, set(), 0
+    """Returns of each crate the numbers of the rows of a drawing that name it."""
+    rows, row = {it: [] for it in crates}, 0
     for line in drawing.splitlines():
-        row += line.startswith("+")
+        row += "+-" in line or "+=" in line
         for word in re.findall(r"\w+", line):
-            if word in rows and row not in rows[word]:
+            if word in rows:
                 rows[word].append(row)
-        contracts |= {it for it in re.findall(r"[A-Z]\w+ in (\w+)", line) if it in rows}
-    return rows, contracts
+    return rows
 
 
 def faults_of_drawing(text, crates):
@@ -61,14 +80,14 @@ def faults_of_drawing(text, crates):
     if not drawing:
         yield f"{DRAWN}: there is no drawing"
         return
-    rows, contracts = rows_of(drawing[1], crates)
+    if len(drawing[1].splitlines()) > MOST_LINES:
+        yield f"{DRAWN}: the drawing has {len(drawing[1].splitlines())} lines of at most {MOST_LINES}"
+    rows = rows_of(drawing[1], crates)
     for crate, uses in crates.items():
-        if not rows[crate]:
-            yield f"{DRAWN}: the drawing has no {crate}"
-        elif len(rows[crate]) > 1 and crate not in contracts:
-            yield f"{DRAWN}: the drawing has {crate} in {len(rows[crate])} rows"
+        if len(rows[crate]) != 1:
+            yield f"{DRAWN}: the drawing has {crate} {len(rows[crate])} times"
         for it in uses:
-            if rows[crate] and rows.get(it) and it not in contracts and rows[it][-1] < rows[crate][0]:
+            if rows[crate] and rows[it] and rows[it][-1] < rows[crate][0]:
                 yield f"{DRAWN}: the drawing has {it} above {crate}, which uses it"
 
 
@@ -82,43 +101,39 @@ def wrong_order(where, found, wanted):
         yield f"{where} has {found[at]} where {wanted[at]} comes in {CRATES}"
 
 
-def table_of(text):
-    """Returns the crates in the first column of the table of crates."""
-    table = text.partition("## What each crate does")[2].partition("\n## ")[0]
-    cells = [line.split("|")[1] for line in table.splitlines() if line.startswith("| `")]
-    return [it for cell in cells for it in re.findall(r"`(\w+)`", cell)]
-
-
 def faults_of_adding(text, libraries):
     """Yields each library for C that the row of their calls does not name."""
     row = next((line for line in text.splitlines() if line.startswith("| A call of a C library |")), "")
     yield from (f"{ADDING}: the row of a call of a C library lacks {it}" for it in libraries if f"`{it}`" not in row)
 
 
-def faults_in(crates, drawn, status, adding):
-    """Yields what the texts of the four files say otherwise than the first of them."""
+def faults_in(crates, shown, drawn, status, adding):
+    """Yields what the texts of the files say otherwise than the first of them."""
     lines = [it for _, part in parts_of(crates) for it in part]
     names = [it for it, _, _ in lines]
     yield from faults_of_parts(crates)
+    yield from faults_of_list(crates, shown)
     yield from faults_of_drawing(drawn, {it: [use for use in uses if use in names] for it, _, uses in lines})
-    yield from wrong_order(f"{DRAWN}: the table", table_of(drawn), names)
-    yield from wrong_order(f"{STATUS}: the page", re.findall(r"^## (\w+) \(", status, re.M), names)
+    yield from wrong_order(f"{STATUS}: the page", re.findall(r"^\| `(\w+)` \|", status, re.M), names)
     yield from faults_of_adding(adding, [it for it, words, _ in lines if "staticlib" in words])
 
 
-# Known bad files: the drawing's `b` is above `a`, which uses it, the table lacks `b`, and so on.
+# Known bad files: of `b` nothing is said, the drawing has `b` above `a`, which uses it, and so on.
 SAMPLE = (
-    "# There are three parts\n# ---- low ----\na: c\nb staticlib:\n# ---- high ----\nc: a\n",
-    "```\n+--+\n|b |\n+--+\n|c |\n+--+\n|c a|\n+--+\n```\n## What each crate does\n| `a`, `c` |\n| `c`, `d` |\n",
-    "## b (x)\n## a (x)\n## c (x)\n", "| A call of a C library | `a` |\n")
+    "# There are three parts\n# ---- low ----\n# one\na: c b\nb staticlib:\n# ---- high ----\n# two\nc: a\n",
+    "# The crates\n",
+    "```\n+--+\n|b |\n+--+\n|c |\n+--+\n|c a|\n+--+\n```\n",
+    "| `b` |\n| `a` |\n| `c` |\n", "| A call of a C library | `a` |\n")
 WANTED = (
-    "a, of the part 'low', uses c", "there are two parts", "has c in 2 rows", "table lacks b",
-    "table has d, which is no crate", "table has c twice", "page has b where a comes", "library lacks b")
+    "a, of the part 'low', uses c", "a, of the part 'low', uses b", "there are two parts", "no comment says what b has",
+    "README.md is stale", "has b above a", "has c 2 times", "page has b where a comes", "library lacks b")
 
 
-def main(_):
+def main(words):
     text = read(CRATES)
-    faults = [*faults_in(text, read(DRAWN), read(STATUS), read(ADDING))]
+    if words == ["--write"]:
+        write(LIST, "".join(list_of(text)))
+    faults = [*faults_in(text, read(LIST), read(DRAWN), read(STATUS), read(ADDING))]
     named = [it for _, part in parts_of(text) for it, _, _ in part]
     faults += [] if named == crate_names() else [f"{CRATES}: a crate is in no part"]
     faults += blind("layers", [([*faults_in(*SAMPLE)], WANTED)])

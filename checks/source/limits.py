@@ -1,8 +1,8 @@
 """Fails where a source, a definition or a proof writes the number of a limit and not its name.
 
-It reads the limits (src/limits.rt of cube_shape and region_bits, src/sizes.rt of job_lanes), and looks in all crates
+It reads the limits (src/limits.rt of cube_shape and alloc_bits, src/sizes.rt of lanes), and looks in all crates
 for each literal that is such a number or a power of interest, or one less or more, in whatever form: `1024`, `0x400`,
-`1 << 10`. A limit whose name an earlier file has too is called by its crate: `job_lanes::MAX_LANES`. Comments do not
+`1 << 10`. A limit whose name an earlier file has too is called by its crate: `lanes::MAX_LANES`. Comments do not
 count, nor do tests, whose rows are worked by hand. OTHERS says what else such a number may be; an entry that no literal
 needs fails too, and so does a limit without a sentence. C, Rust, the page and documents cannot name a limit: WRITTEN
 says where they write it out, and each of these numbers must be that of its limit. So does OF_OTHERS of limits of other
@@ -30,7 +30,6 @@ OTHERS = (
     (r"cube_bench/src/regions/random\.rt", r"<< 1[37]|in 0\.\.20", "the shifts of the generator and its first turns"),
     (r"cube_bench/src/regions/\w+\.rt", r"next\(\) >> 20", "the low bits of a random number"),
     (r"cube_bench/src/regions/\w+\.rt", r"padding: \[(0|u64); 16\]", "the words of two cache lines"),
-    (r"wake_table/src/board\.rt", r"count < 2 \^ 62", "the counts of the lanes of this crate"),
     # Limits that have to be written out: when one is changed, its entry here is one that no literal needs.
     (r"cli_args/src/command_line\.rt", r"lane is below 16", "MAX_LANES in the help"),
     (r"jobs_csv/src/wanted\.rt", r"a number below 16", "MAX_LANES in a list of refusals"),
@@ -42,11 +41,11 @@ WRITTEN = (
     ("include/cubejobs_fit.h", r"#define CUBEJOBS_FIT_MAX_DIM (\d+)", "MAX_BITMAP_DIM"),
     ("include/cubejobs_fit.h", r"free blocks of the dimensions 0 to (\d+)", "MAX_BITMAP_DIM"),
     ("include/cubejobs_regions.h", r"#define CUBEJOBS_REGIONS_MAX_DIM (\d+)", "MAX_BITMAP_DIM"),
-    ("include/cubejobs_lanes.h", r"#define CUBEJOBS_LANES_MAX_LANES (\d+)", "job_lanes::MAX_LANES"),
+    ("include/cubejobs_lanes.h", r"#define CUBEJOBS_LANES_MAX_LANES (\d+)", "lanes::MAX_LANES"),
     ("include/cubejobs_lanes.h", r"#define CUBEJOBS_LANES_MAX_WORKERS (\d+)", "MAX_WORKERS"),
-    ("include/cubejobs_lanes.h", r"#define CUBEJOBS_LANES_MAX_CAPACITY (\d+)", "job_lanes::MAX_CAPACITY"),
-    ("include/cubejobs_lanes.h", r"There are 1 to ([\d,]+) lanes and as many", "job_lanes::MAX_LANES"),
-    ("include/cubejobs_lanes.h", r"each lane holds 1 to ([\d,]+) jobs", "job_lanes::MAX_CAPACITY"),
+    ("include/cubejobs_lanes.h", r"#define CUBEJOBS_LANES_MAX_CAPACITY (\d+)", "lanes::MAX_CAPACITY"),
+    ("include/cubejobs_lanes.h", r"There are 1 to ([\d,]+) lanes and as many", "lanes::MAX_LANES"),
+    ("include/cubejobs_lanes.h", r"each lane holds 1 to ([\d,]+) jobs", "lanes::MAX_CAPACITY"),
     ("rust/src/fit_ffi.rs", r"const MAX_DIM: u32 = (\d+);", "MAX_BITMAP_DIM"),
     ("rust/src/regions_ffi.rs", r"const MAX_DIM: u32 = (\d+);", "MAX_BITMAP_DIM"),
     ("rust/src/regions_ffi.rs", r"const FREE_PLACES: usize = (\d+);", "MAX_BITMAP_DIM + 1"),
@@ -63,12 +62,12 @@ WRITTEN = (
     ("README.md", r"A\s+run has (\d+) lanes", "MAX_LANES"),
     ("README.md", r"lanes, 1 to (\d+)\s+dispatchers", "MAX_DISPATCHERS"),
     ("README.md", r"a queue\s+of 1 to ([\d,]+) jobs", "MAX_CAPACITY"),
-    ("README.md", r"([\d,]+) lanes and workers; 1 to", "job_lanes::MAX_LANES"),
-    ("README.md", r"lanes and workers; 1 to ([\d,]+) jobs in a lane", "job_lanes::MAX_CAPACITY"),
-    ("docs/theorem/top.md", r"dimension 0\s+to (\d+)", "MAX_DIM"),
-    ("docs/theorem/top.md", r"fixed: (\d+) lanes", "MAX_LANES"),
-    ("docs/theorem/top.md", r"lanes, (\d+) workers", "MAX_DISPATCHERS"),
-    ("docs/theorem/top.md", r"a queue of 1 to ([\d,]+) jobs", "MAX_CAPACITY"),
+    ("README.md", r"([\d,]+) lanes and workers; 1 to", "lanes::MAX_LANES"),
+    ("README.md", r"lanes and workers; 1 to ([\d,]+) jobs in a lane", "lanes::MAX_CAPACITY"),
+    ("docs/THEOREM.md", r"dimension 0\s+to (\d+)", "MAX_DIM"),
+    ("docs/THEOREM.md", r"fixed: (\d+) lanes", "MAX_LANES"),
+    ("docs/THEOREM.md", r"lanes, (\d+) workers", "MAX_DISPATCHERS"),
+    ("docs/THEOREM.md", r"a queue of 1 to ([\d,]+) jobs", "MAX_CAPACITY"),
     ("docs/C.md", r"largest dimension \| (\d+)", "MAX_BITMAP_DIM"),
     ("docs/C.md", r"largest dimension \| \d+ \| (\d+)", "MAX_BITMAP_DIM"),
     ("docs/RUST.md", r"FirstFit` \| dimension 0 to (\d+)", "MAX_BITMAP_DIM"),
@@ -78,17 +77,17 @@ WRITTEN = (
 )
 # The same of a constant of another file.
 OF_OTHERS = (
-    ("include/cubejobs_plan.h", r"#define CUBEJOBS_PLAN_MAX_JOBS (\d+)", "crates/wait_queue/src/nodes.rt", "MAX_SLOTS"),
+    ("include/cubejobs_plan.h", r"#define CUBEJOBS_PLAN_MAX_JOBS (\d+)", "crates/sched_jobs/src/nodes.rt", "MAX_SLOTS"),
     ("include/cubejobs_plan.h", r"#define CUBEJOBS_PLAN_CLASSES (\d+)", "crates/sched_jobs/src/lines.rt", "CLASSES"),
-    ("include/cubejobs_sched.h", r"#define CUBEJOBS_SCHED_MAX_JOBS (\d+)", "crates/wait_queue/src/nodes.rt",
+    ("include/cubejobs_sched.h", r"#define CUBEJOBS_SCHED_MAX_JOBS (\d+)", "crates/sched_jobs/src/nodes.rt",
      "MAX_SLOTS"),
     ("include/cubejobs_sched.h", r"#define CUBEJOBS_SCHED_CLASSES (\d+)", "crates/sched_jobs/src/lines.rt", "CLASSES"),
-    ("include/cubejobs_sched.h", r"#define CUBEJOBS_SCHED_MAX_WORKERS (\d+)", "crates/sched_pool/src/workers.rt",
+    ("include/cubejobs_sched.h", r"#define CUBEJOBS_SCHED_MAX_WORKERS (\d+)", "crates/sched_board/src/workers.rt",
      "MAX_WORKERS"),
-    ("rust/src/sched_ffi.rs", r"const MAX_JOBS: u32 = ([\d_]+);", "crates/wait_queue/src/nodes.rt", "MAX_SLOTS"),
+    ("rust/src/sched_ffi.rs", r"const MAX_JOBS: u32 = ([\d_]+);", "crates/sched_jobs/src/nodes.rt", "MAX_SLOTS"),
     ("rust/src/sched_ffi.rs", r"const CLASSES: u8 = (\d+);", "crates/sched_jobs/src/lines.rt", "CLASSES"),
-    ("rust/src/sched_ffi.rs", r"const MAX_WORKERS: u32 = ([\d_]+);", "crates/sched_pool/src/workers.rt", "MAX_WORKERS"),
-    ("docs/RUST.md", r"2\^24 jobs; ([\d,]+) workers", "crates/sched_pool/src/workers.rt", "MAX_WORKERS"),
+    ("rust/src/sched_ffi.rs", r"const MAX_WORKERS: u32 = ([\d_]+);", "crates/sched_board/src/workers.rt", "MAX_WORKERS"),
+    ("docs/RUST.md", r"2\^24 jobs; ([\d,]+) workers", "crates/sched_board/src/workers.rt", "MAX_WORKERS"),
 )
 SUFFIX = r"(?:[ui](?:8|16|32|64|128|size))?"
 POWER = rf"(?:(?P<base>[12]){SUFFIX}\s*(?P<sign>\^|<<|\.pow\()\s*)?"

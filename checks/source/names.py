@@ -15,17 +15,15 @@ from checks.source.prose import GENERATED, documents, outside_code
 
 # Mutants, and what a document says of their number.
 COUNTS = (
-    (("mutants", "*", "*.edit"), "docs/EVIDENCE.md", r"`mutants/` has ([\d,]+),"),
-    (("mutants", "*", "*.edit"), "docs/EVIDENCE.md", r"- `edits`, [^.]*the ([\d,]+) mutants"),
-    (("rust", "pool", "mutants", "*.edit"), "docs/EVIDENCE.md", r"pool has ([\d,]+) mutants"),
+    (("mutants", "*", "*.edit"), "docs/STATUS.md", r"`mutants/` has ([\d,]+),"),
+    (("mutants", "*", "*.edit"), "docs/STATUS.md", r"- `edits`, [^.]*the ([\d,]+) mutants"),
+    (("rust", "pool", "mutants", "*.edit"), "docs/STATUS.md", r"pool has ([\d,]+) mutants"),
 )
 # Tables of which a document says how many entries they have: the page, its sentence, the first line of the table, and a
 # pattern of an entry in the lines up to the next empty one.
 TABLES = (
     ("docs/GUIDE.md", r"`cubejobs` has (\w+) commands", "| Command | It |", r"^\| \["),
-    ("docs/ARCHITECTURE.md", r"a quick take passes through (\w+) functions", "| Crate | Functions, each",
-     r"(?<=, )`[\w:]+`|`[\w:]+`(?=,)"),
-    ("docs/ARCHITECTURE.md", r"functions of (\w+)\s+crates", "| Crate | Functions, each", r"^\| `\w+` \|"),
+    ("docs/ARCHITECTURE.md", r"changes its shape (\w+) times", "| Shape | Made by", r"\b\d+\. "),
 )
 NUMBERS = "zero one two three four five six seven eight nine ten eleven twelve".split()
 # Words of the toolchain, of the system and of other libraries that nothing here uses, and parts of other languages.

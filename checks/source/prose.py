@@ -19,7 +19,7 @@ from checks.lib.repository import crate_names, files_below, path, place, read
 from checks.lib.rows import blind, print_faults
 
 MOST_IN_SENTENCE, MOST_COLUMNS, MOST_IN_CELL = 25, 100, 60
-GENERATED = ("docs/DEFINITIONS.md", "docs/THEOREM.md")
+GENERATED = ("crates/README.md",)
 # What is made from sources that are read themselves.
 ERASED = tuple(f"rust/src/source/{it}/" for it in erase.CRATES)
 # The pages on calling, which are counted together.
@@ -92,9 +92,11 @@ def count(text):
 def faults_of(numbered):
     """Yields the number of a line and its fault, for each fault of a text."""
     for first, text, is_cell in parts(outside_code(numbered)):
-        text, at = plain(text), 0
-        if is_cell and count(text) > MOST_IN_CELL:
-            yield first, f"a table cell of {count(text)} words"
+        if is_cell:
+            longest = max(count(plain(it)) for it in text.split("<br>"))
+            if longest > MOST_IN_CELL:
+                yield first, f"a table cell of {longest} words"
+        text, at = plain(re.sub(r"[.:]?<br>", ". ", text)), 0
         for end in [*(it.span() for it in END.finditer(text)), (len(text), len(text))]:
             sentence = text[at : end[0]]
             if count(sentence) > MOST_IN_SENTENCE:
@@ -152,7 +154,7 @@ def faults_in(file, text):
 
 def documents():
     """Returns the documents that are written by hand."""
-    patterns = "*.md", "docs/*.md", "docs/theorem/top.md", "rust/README.md", "rust/pool/README.md", PAGES
+    patterns = "*.md", "docs/*.md", "rust/README.md", "rust/pool/README.md", PAGES
     found = [place(it) for pattern in patterns for it in sorted(glob.glob(path(pattern)))]
     return [it for it in found if it not in GENERATED]
 

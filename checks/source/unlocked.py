@@ -1,5 +1,5 @@
 """Finds locks in the sources of the queue, of both trees, of the libraries of regions and of the scheduler for threads,
-and of job lanes with their calls of sleep and wake: `line_ruled`, `floor_tree`, `floor_bitmap`, `cubejobs_regions`,
+and of job lanes with their calls of sleep and wake: `line_ruled`, `floor_tree`, `cubejobs_regions`,
 `cubejobs_sched`, `cubejobs_lanes`, `wake_calls` and all below.
 
 No contract says this of a call that may wait: a lock around it changes neither its result nor what it records. It finds
@@ -8,7 +8,7 @@ No contract says this of a call that may wait: a lock around it changes neither 
 - a crate of the toolchain that is not in ALLOWED, in the crate's line of crates.txt; the queue of `crossbeam_queue` has
   no lock, but a push or a pop may wait for another one; a claim of `counted_slot` is tried once, and may be refused;
   of `crossbeam_utils` sources may name `Backoff` alone,
-- the repository's `locked_cell`, of which its locked line and floor are made, and
+- the repository's `locked_peers`, a queue and an allocator under a lock each, and
 - a loop with no bound (`forever`), of which a lock made by hand needs one; each floor's `take` alone has such a loop.
 
 `checks/run unlocked [FOLDER]` reads this repository, or a copy of it.
@@ -21,7 +21,7 @@ from checks.lib.crates import libraries_of, uses_of
 from checks.lib.repository import ROOT, files_below, read
 from checks.lib.rows import print_faults
 
-TOPS = ("line_ruled", "floor_bitmap", "floor_tree", "cubejobs_regions", "cubejobs_sched", "cubejobs_lanes",
+TOPS = ("line_ruled", "floor_tree", "cubejobs_regions", "cubejobs_sched", "cubejobs_lanes",
         "wake_calls")
 ALLOWED = {
     "core", "std", "std_alloc", "std_heap", "atomic_table", "bitflags", "counted_slot", "crossbeam_queue",
@@ -32,7 +32,7 @@ LOCKS = re.compile(
     r"|\bsync::(?:\{[^}]*)?\bOnce\b|\bcrossbeam_utils\b(?!::Backoff;)"
 )
 FOREVER = re.compile(r"\bforever\b")
-WAITS = {"crates/floor_bitmap/src/floor_bitmap.rt": 1, "crates/floor_tree/src/floor_tree.rt": 1}
+WAITS = {"crates/floor_tree/src/floor_tree.rt": 1}
 
 
 def faults_of(crate, root):

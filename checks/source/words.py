@@ -1,6 +1,6 @@
 """Fails where one word has two senses: a public type whose name stands in two crates, or a word of docs/GLOSSARY.md
-with two entries; where a crate has no section of docs/STATUS.md with its three lists; and where docs/ALGORITHM.md does
-not name exactly the events of the tree.
+with two entries; where a crate has no row of docs/STATUS.md with its cells; and where docs/ALGORITHM.md does not
+name exactly the events of the tree.
 
 It reads the types that each library makes public and has itself, and the first column of the glossary's tables. ALLOWED
 says which crates may share a name, and why; an entry that is not needed fails too. Bare, the names of NOBODYS belong to
@@ -18,32 +18,32 @@ NOBODYS = ("Lane", "Pass", "Station")
 # Which crates have a type of this name, and why that misleads nobody.
 ALLOWED = {
     "Answer": ("cubejobs_fit cubejobs_regions", "what a call of a library for C answers; each has a header of its own"),
-    "Closer": ("dispatcher job_lanes", "the right to close a shop, and to close lanes of jobs"),
+    "Closer": ("dispatcher lanes", "the right to close a shop, and to close lanes of jobs"),
     "Entry": ("job_queue tree_steps", "a lane's entry into a line, and a station's member of a seat"),
     "Finished": ("dispatcher uses", "what is known at the end: of a shop, of a run over a line alone"),
-    "FreeMachine": ("cube_tree floor_bitmap floor_locked", "what a close gives; callers of floors see F::Machine"),
+    "FreeMachine": ("cube_tree locked_peers", "what a close gives; callers of floors see F::Machine"),
     "Handle": ("cubejobs_lanes cubejobs_plan cubejobs_regions cubejobs_sched",
                "what a caller in C keeps; each library has one of its own"),
     "Kind": ("cube_core job_types", "of an event, and of a collective; a caller of jobs sees no event"),
-    "Lane": ("job_lanes", "the producer's handle of a lane of jobs; at a queue it is that of a line"),
-    "LaneRecord": ("job_lanes job_queue line_ring", "what a lane has done: of jobs, at a line and at its ring"),
-    "Note": ("cube_core job_lanes", "of a machine that is closed, and of lanes that are"),
-    "Occupancy": ("bitmap_occupancy cube_occupancy", "what is free, by the words of either tree"),
+    "Lane": ("lanes", "the producer's handle of a lane of jobs; at a queue it is that of a line"),
+    "LaneRecord": ("job_queue lanes line_ring", "what a lane has done: of jobs, at a line and at its ring"),
+    "Note": ("cube_core lanes", "of a machine that is closed, and of lanes that are"),
+    "Occupancy": ("bitmap_occupancy cube_ledger", "what is free, by the words of either tree"),
     "OccupancyAnswer": ("cubejobs_fit cubejobs_regions", "what is free in a machine, by a library for C"),
     "Opened": ("dispatcher job_queue", "a new shop, and a new line, each with all that its callers need"),
     "PassRecord": ("job_queue line_ring", "what a pass has done, at a line and at its ring, which line_ruled joins"),
-    "Plan": ("job_lanes tests_kit", "which words lanes have, and what a test does"),
+    "Plan": ("lanes tests_kit", "which words lanes have, and what a test does"),
     "Reading": ("job_queue line_gate", "what a pass read of a line, and of its gate, which line_ruled joins"),
     "Refused": ("bitmap_tree cube_core job_queue", "a refused take, call of the pure machine, and job of a line"),
     "Request": ("cli_args job_types", "of a command line, and of a job; a caller of either sees one"),
     "Row": ("jobs_csv tests_kit", "what is written as a line of CSV, and a row of a test"),
-    "Sizes": ("job_lanes job_queue", "of lanes of jobs, and of a line"),
-    "Taken": ("job_lanes job_queue", "the outcome of a take, from a lane of jobs and from a line"),
+    "Sizes": ("job_queue lanes", "of lanes of jobs, and of a line"),
+    "Taken": ("job_queue lanes", "the outcome of a take, from a lane of jobs and from a line"),
     "Tally": ("collectives uses", "rounds and messages, and what a stranger's line counts"),
-    "Worker": ("dispatcher job_lanes", "of a shop, and of lanes of jobs"),
+    "Worker": ("dispatcher lanes", "of a shop, and of lanes of jobs"),
 }
-# The lists of a section of docs/STATUS.md.
-LISTS = ("Proved", "Tested", "Neither")
+# The cells of a row of docs/STATUS.md, after the crate.
+CELLS = ("Proved", "Tested", "Passes everything")
 
 
 def types_in(items):
@@ -96,14 +96,12 @@ def glossary_faults(text):
 
 
 def status_faults(text, crates):
-    """Yields which crates have no section, or not its lists. A section without lists says why it has none."""
-    parts = [part.partition("\n") for part in re.split(r"^## ", text, flags=re.M)[1:]]
-    found = {name: below for heading, _, below in parts for name in re.findall(r"\w+", heading.partition("(")[0])}
+    """Yields which crates have no row, and which rows say nothing of what is proved or tested, or have other cells."""
+    rows = {it[1]: re.split(r"(?<!\\)\|", it[2]) for it in re.finditer(r"^\| `(\w+)` \|(.*)\|$", text, re.M)}
     for crate in crates:
-        why, *lists = re.split(r"^(?:### |\*\*)?(Proved|Tested|Neither)\b[*:.]*", found.get(crate, ""), flags=re.M)
-        for name in LISTS if lists or not why.strip() else ():
-            if not dict(zip(lists[::2], lists[1::2])).get(name, "").strip():
-                yield f"docs/STATUS.md has no list '{name}' below a heading '## {crate}'"
+        cells = rows.get(crate, [])
+        if len(cells) != len(CELLS) or not "".join(cells[:2]).strip():
+            yield f"docs/STATUS.md has no row of `{crate}` with {', '.join(CELLS)}"
 
 
 def event_kinds(root):
@@ -124,21 +122,12 @@ def step_faults(text, kinds, printed):
 
 
 # Known bad pages, and the words of each fault.
-STATUS = """## a, b (two)
-Proved
-- all
-**Tested**: Nothing.
-### Neither
-## c
-Only tests.
-## d
-"""
-NOTHING = [f"no list '{name}' below a heading '## {crate}'" for crate in "de" for name in LISTS]
+STATUS = "| `a` | all | | a \\| b |\n| `b` | | all | |\n| `c` | | | time |\n| `d` | all | |\n"
 ALGORITHM = "```\nw = load(h)         Look\nh            Leap     at Once\n```\n*Claim*"
 
 
 def known_bad():
-    yield [*status_faults(STATUS, "bcde")], ["no list 'Neither' below a heading '## b'", *NOTHING]
+    yield [*status_faults(STATUS, "abcde")], [f"no row of `{crate}`" for crate in "cde"]
     steps = [*step_faults(ALGORITHM, ["Look", "Claim", "Mark"], {"Look": "look", "Claim": "claims", "Mark": "mark"})]
     yield steps, ["names the step Leap", "no step Claim", "no step Mark"]
 

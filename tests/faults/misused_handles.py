@@ -8,22 +8,18 @@ LIB = "src/lib.rt"
 OVER_TREES = """#![tactic(auto)]
 use bitmap_tree::{BitmapTree, BlankSeat, BlockSeat, HeldBlock, HiddenSeat, Permit};
 use cube_tree::{Cube, Solo, TreeStation, StillOut, Subcube};
-use floor_bitmap::{BitmapFloor, BitmapStation, HeldStation};
-use floors::Floor;
-use std::sync::Wait;
 """
-OF_TREES = ["bitmap_tree", "cube_tree", "floor_bitmap", "floors"]
+OF_TREES = ["bitmap_tree", "cube_tree"]
 RELEASE, RETIRE = "subcube.release(cube).retire(cube);", "station.retire(cube);"
 OF_SUBCUBE, OF_STATION = "(cube: &Cube, subcube: Subcube)", "(cube: &Cube, station: TreeStation)"
 PASS_ON = "(out: StillOut, station: TreeStation) -> (Cube, TreeStation)"
-OF_BLOCK, OF_HELD = "(tree: &BitmapTree, held: HeldBlock)", "<R: Wait>(rt: &R, floor: &BitmapFloor, held: HeldStation)"
+OF_BLOCK = "(tree: &BitmapTree, held: HeldBlock)"
 GOOD = [
     ("subcube_released", FINE, OF_SUBCUBE, RELEASE),
     ("solo_closed", FINE, "(solo: Solo)", "solo.close();"),
     ("cube_passed_on", FINE, PASS_ON, "let StillOut { cube, missing: _ } = out; (cube, station)"),
     ("block_released", FINE, OF_BLOCK, "tree.release(held);"),
     ("seat_without_a_bit_dropped", FINE, "(_seat: BlankSeat)", ""),
-    ("block_of_a_station_released", FINE, OF_HELD + " -> BitmapStation", "floor.release(rt, held)"),
 ]
 DROPS = [
     ("subcube_dropped", DROPPED, "(_subcube: Subcube)", ""),
@@ -38,10 +34,6 @@ DROPS = [
     ("block_of_a_take_dropped", DROPPED, "(tree: &BitmapTree)", "let _taken = tree.take_quick(0, 0);"),
     ("hidden_seat_dropped", DROPPED, "(_seat: HiddenSeat)", ""),
     ("permit_dropped", DROPPED, "(_permit: Permit)", ""),
-    ("bitmap_floor_dropped", DROPPED, "(_floor: BitmapFloor)", ""),
-    ("bitmap_station_dropped", DROPPED, "(_station: BitmapStation)", ""),
-    ("held_station_dropped", DROPPED, "(_held: HeldStation)", ""),
-    ("bitmap_station_of_a_release_dropped", DROPPED, OF_HELD, "let _station = floor.release(rt, held);"),
 ]
 APART = [
     ("hidden_seat_taken_apart", FIELD, "(seat: HiddenSeat)", "let HiddenSeat { seal: _ } = seat;"),

@@ -19,7 +19,7 @@ use source::bitmap_tree::{BitmapTree, HeldBlock};
 use source::collectives::{Monoid, Tally, all_reduce, exscan, reduce, scan};
 use source::cube_shape::{Node, Region};
 use source::cube_tree::{Cube, Subcube, TreeStation};
-use source::job_lanes::{Finder, Found, Lane, LaneJob, Lanes, Sizes, Sleeper, Submitted, Taken, TakenAny, Worker};
+use source::lanes::{Finder, Found, Lane, LaneJob, Lanes, Sizes, Sleeper, Submitted, Taken, TakenAny, Worker};
 use source::kit::alloc::Global;
 use std::collections::BTreeMap;
 use std::sync::Mutex;
