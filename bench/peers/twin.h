@@ -1,5 +1,5 @@
 /* The bitmap tree of crates/bitmap_tree by hand: the same words, summary bits (marks), spares and order of search as
- * `take_quick` and `release` have. Nothing here is proved. */
+ * `take` and `release` have. Nothing here is proved. */
 #include <stdatomic.h>
 #include <stdbool.h>
 #include <stdint.h>

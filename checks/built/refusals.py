@@ -32,7 +32,7 @@ RUNS = {
     (BENCH, "memory", "files"): [(f"read_{name}", " 9", " 0", 0) for name in ("jobs", "place", "schedule")],
     # A machine of dimension 10 has 17 words, and its first block of 32 processors begins at 0.
     (OF_LIBRARIES, "block_memory"): [
-        ("open", " 10", "", 2), ("take_quick", " 0", None, 0), ("close", " 17", None, 0),
+        ("open", " 10", "", 2), ("take", " 0", None, 0), ("close", " 17", None, 0),
         ("open_with_permits", " 3", "", 1), ("close_with_permits", " 17", None, 0),
     ],
     # A job is submitted to the first of two lanes.

@@ -31,7 +31,7 @@ DROPS = [
     ("block_dropped", DROPPED, "(_held: HeldBlock)", ""),
     ("seat_of_a_block_dropped", DROPPED, "(held: HeldBlock)", "let (_region, _dim, _seat) = held.into_parts();"),
     ("seat_that_may_have_bits_dropped", DROPPED, "(_seat: BlockSeat)", ""),
-    ("block_of_a_take_dropped", DROPPED, "(tree: &BitmapTree)", "let _taken = tree.take_quick(0, 0);"),
+    ("block_of_a_take_dropped", DROPPED, "(tree: &BitmapTree)", "let _taken = tree.take(0, 0);"),
     ("hidden_seat_dropped", DROPPED, "(_seat: HiddenSeat)", ""),
     ("permit_dropped", DROPPED, "(_permit: Permit)", ""),
 ]

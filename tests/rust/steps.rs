@@ -167,12 +167,12 @@ fn one_of_regions(most: &mut Most, dice: &mut Dice, tree: &BitmapTree, n: u32, s
     let put = |held| shelf.lock().unwrap().push(held);
     match dice.below(12) {
         0..=3 => {
-            if let Ok(held) = counted(most, "take", limit, || tree.take_quick(k, near)) {
+            if let Ok(held) = counted(most, "take", limit, || tree.take(k, near)) {
                 put(held);
             }
         }
         4 => {
-            if let Ok(held) = counted(most, "take_exact", limit, || tree.take(k, near)) {
+            if let Ok(held) = counted(most, "take_exact", limit, || tree.take_exact(k, near)) {
                 put(held);
             }
         }

@@ -7,7 +7,7 @@ ghost use Rattle.bitmap_tree.specs.InnerRule.{times};
 ghost use Rattle.bitmap_tree.specs.Rule.{word_count};
 ghost use Rattle.bitmap_tree.specs.Ends.{IsFresh};
 ghost use Rattle.bitmap_tree.specs.Alone.{HasNoBlock};
-ghost use Rattle.bitmap_tree.specs.Bounds.{release_steps, take_steps};
+ghost use Rattle.bitmap_tree.specs.Bounds.{exact_steps, release_steps};
 ghost use Rattle.bitmap_tree.specs.Layout.{run_of};
 ghost use Rattle.bitmap_tree.specs.Seats.{HasNoBit};
 ghost use Rattle.bitmap_tree.specs.Trail.{AreRightSteps, IsAlone, WasClaimed, WasDisturbed, WasRefused, WasReleased};
@@ -48,9 +48,9 @@ impl BitmapTree {
         ensures steps { IfOk result (λ held.
             AreRightSteps (dim_of self.now) (held_trail held)) }
         ensures few { IfOk result (λ held.
-            length (held_trail held) ≤ take_steps (dim_of self.now)) }
+            length (held_trail held) ≤ exact_steps (dim_of self.now)) }
         ensures few_refused { IfErr result (λ refused.
-            length (permit_trail refused.0) ≤ take_steps (dim_of self.now)) }
+            length (permit_trail refused.0) ≤ exact_steps (dim_of self.now)) }
     {
         let Permit { mut seat } = permit;
         self.begin(&mut seat, self.word_near(processor));

@@ -2,7 +2,7 @@
 ghost use Rattle.std.specs.Prelude.{◌≡◌, ℕ, ◌+◌, ◌*◌, ◌/◌, ◌%◌, ◌^◌, ◌<◌, ◌≤◌, ◌-◌, ◌≢◌, IfSome, IfNone, IfOk, IfErr, length, slice_index, List, true, false};
 ghost use Rattle.cube_shape.specs.Region.{IsAligned};
 ghost use Rattle.bitmap_tree.specs.Alone.{HasNoBlock, IsInUse};
-ghost use Rattle.bitmap_tree.specs.Bounds.{block_steps, quick_steps, take_steps};
+ghost use Rattle.bitmap_tree.specs.Bounds.{block_steps, exact_steps, take_steps};
 ghost use Rattle.bitmap_tree.specs.Rule.{first_word};
 ghost use Rattle.bitmap_tree.specs.Layout.{HasRun, run_of};
 ghost use Rattle.bitmap_tree.specs.InnerLayout.{HasTaken, IsBlank, IsIn, Grows};
@@ -38,7 +38,7 @@ fn refuse(seat: BlockSeat, contended: u32) -> Refused
 impl BitmapTree {
     // Takes a block by the marks, by a seat with an empty run.
     #[inline(always)]
-    fn take_quickly(&self, seat: &mut BlockSeat, k: u32, processor: u64) -> Option<Region>
+    fn search_by_marks(&self, seat: &mut BlockSeat, k: u32, processor: u64) -> Option<Region>
         requires table { seat.old.table_id ≡ id_of self.now }
         requires may { MayClaim self.now seat.old.me }
         requires fits { k ≤ dim_of self.now }
@@ -63,7 +63,7 @@ impl BitmapTree {
     /// Takes an aligned block of dimension `k`, by a search that begins near a processor.
     ///
     /// It passes words with a mark by, so a refusal says only what its steps found and left.
-    pub fn take_quick(&self, k: u32, processor: u64) -> Result<HeldBlock, BlankSeat>
+    pub fn take(&self, k: u32, processor: u64) -> Result<HeldBlock, BlankSeat>
         requires anyone { permits_of self.now ≡ 0 }
         requires fits { k ≤ dim_of self.now }
         requires processor { processor < 2 ^ dim_of self.now }
@@ -75,12 +75,12 @@ impl BitmapTree {
         ensures steps { IfOk result (λ held.
             AreRightSteps (dim_of self.now) (held_trail held)) }
         ensures few { IfOk result (λ held.
-            length (held_trail held) ≤ quick_steps (dim_of self.now)) }
+            length (held_trail held) ≤ take_steps (dim_of self.now)) }
         ensures few_refused { IfErr result (λ seat.
-            length seat.me.0.trail ≤ quick_steps (dim_of self.now)) }
+            length seat.me.0.trail ≤ take_steps (dim_of self.now)) }
     {
         let mut seat = self.enter(self.word_near(processor));
-        match self.take_quickly(&mut seat, k, processor) {
+        match self.search_by_marks(&mut seat, k, processor) {
             Some(region) => Ok(self.hold(seat, region)),
             None => Err(rest(seat)),
         }
@@ -89,7 +89,7 @@ impl BitmapTree {
     // Takes a block after the marks gave none. It shuts the empty words below the level of the
     // dimension. Then it looks at each word of this level and of those above.
     #[cold]
-    fn take_exactly(&self, seat: &mut BlockSeat, k: u32) -> Result<Region, u32>
+    fn search_each_word(&self, seat: &mut BlockSeat, k: u32) -> Result<Region, u32>
         requires table { seat.old.table_id ≡ id_of self.now }
         requires may { MayClaim self.now seat.old.me }
         requires fits { k ≤ dim_of self.now }
@@ -146,9 +146,9 @@ impl BitmapTree {
         ensures right { KeepsRight (dim_of self.now) seat.old.me seat.new.me }
         ensures grows { Grows (256 + 282 * 2 ^ (dim_of self.now - 6)) seat.old.me seat.new.me }
     {
-        match self.take_quickly(seat, k, processor) {
+        match self.search_by_marks(seat, k, processor) {
             Some(region) => Ok(region),
-            None => self.take_exactly(seat, k),
+            None => self.search_each_word(seat, k),
         }
     }
 
@@ -171,13 +171,13 @@ impl BitmapTree {
         }
     }
 
-    /// Takes an aligned block of dimension `k` as `take_quick` does, and looks at each word before
-    /// it refuses.
+    /// Takes an aligned block of dimension `k` as `take` does, and looks at each word before it
+    /// refuses.
     ///
     /// Where no word was given up after lost exchanges, a refusal has evidence. Of each block of
     /// the dimension a step of this call found a bit set, and so of each unit of each level above.
     /// And if no other call made a step, no block of the dimension is free.
-    pub fn take(&self, k: u32, processor: u64) -> Result<HeldBlock, Refused>
+    pub fn take_exact(&self, k: u32, processor: u64) -> Result<HeldBlock, Refused>
         requires anyone { permits_of self.now ≡ 0 }
         requires fits { k ≤ dim_of self.now }
         requires processor { processor < 2 ^ dim_of self.now }
@@ -196,9 +196,9 @@ impl BitmapTree {
         ensures steps { IfOk result (λ held.
             AreRightSteps (dim_of self.now) (held_trail held)) }
         ensures few { IfOk result (λ held.
-            length (held_trail held) ≤ take_steps (dim_of self.now)) }
+            length (held_trail held) ≤ exact_steps (dim_of self.now)) }
         ensures few_refused { IfErr result (λ refused.
-            length (refused_trail refused) ≤ take_steps (dim_of self.now)) }
+            length (refused_trail refused) ≤ exact_steps (dim_of self.now)) }
     {
         let mut seat = self.enter(self.word_near(processor));
         match self.take_by(&mut seat, k, processor) {

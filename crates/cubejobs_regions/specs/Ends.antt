@@ -2,7 +2,7 @@
 use Rattle.std.specs.Prelude.{◌≡◌, ◌≤◌, ◌+◌, ℕ, List, length}
 use Rattle.cube_shape.specs.declared.region.Region.{Region}
 use Rattle.cube_shape.specs.Region.{IsAligned}
-use Rattle.bitmap_tree.specs.Bounds.{release_steps, take_steps}
+use Rattle.bitmap_tree.specs.Bounds.{exact_steps, release_steps}
 use Rattle.bitmap_tree.specs.Layout.{run_of}
 use Rattle.bitmap_tree.specs.Trail.{AreRightSteps, WasClaimed, WasReleased}
 use Rattle.bitmap_tree.specs.declared.view.Note.{Note}
@@ -30,7 +30,7 @@ pub record FoundFree (n : ℕ) (trail : List Note) : Type 0 where
   pub claimed : WasClaimed (run_of n block) claims
   pub released : WasReleased (run_of n block) claims trail
   pub steps : AreRightSteps n trail
-  pub few : length trail ≤ take_steps n + release_steps
+  pub few : length trail ≤ exact_steps n + release_steps
 
 -- The machine of a handle is as before, and has one handle.
 pub record IsKept (before after : Machine) : Type 0 where

@@ -14,7 +14,7 @@ pub mod Occupancy
 pub mod Ownership
 pub mod Tags
 pub mod Takes
-pub use Rattle.bitmap_tree.specs.Bounds.{block_steps, quick_steps, take_steps}
+pub use Rattle.bitmap_tree.specs.Bounds.{block_steps, exact_steps, take_steps}
 pub use Rattle.bitmap_tree.specs.Layout.{AreHalves}
 pub use Rattle.bitmap_tree.specs.Parts.{IsHeldBy}
 pub use Rattle.bitmap_tree.specs.HiddenSeats.{seat_in}

@@ -3,7 +3,7 @@ use Rattle.std.specs.Prelude.{◌≡◌, ◌≢◌, ℕ, ◌≤◌, List, Option
 use Rattle.cube_shape.specs.declared.region.Region.{Region}
 use Rattle.cube_shape.specs.Region.{IsAligned}
 use Rattle.bitmap_tree.specs.Alone.{HasNoBlock, IsInUse}
-use Rattle.bitmap_tree.specs.Bounds.{block_steps, take_steps}
+use Rattle.bitmap_tree.specs.Bounds.{block_steps, exact_steps}
 use Rattle.bitmap_tree.specs.Layout.{run_of}
 use Rattle.bitmap_tree.specs.Trail.{AreRightSteps, IsAlone, WasBlockTaken, WasClaimed, WasDisturbed, WasRefused}
 use Rattle.bitmap_tree.specs.declared.view.Note.{Note}
@@ -54,7 +54,7 @@ pub record FoundNoRoom (n k contended : ℕ) (trail : List Note) : Type 0 where
   pub disturbed : contended ≢ 0 → WasDisturbed trail
   pub alone : (words : List ℕ) → IsAlone (slice_index words) trail
       → HasNoBlock n k words
-  pub few : length trail ≤ take_steps n
+  pub few : length trail ≤ exact_steps n
 
 -- The same for a take of one block, of which a part was found in use.
 pub record FoundInUse (n : ℕ) (block : Region) (contended : ℕ) (trail : List Note) : Type 0 where

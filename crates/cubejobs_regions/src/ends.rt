@@ -109,7 +109,7 @@ fn end(common: Common, start: u64) -> Result<BlankSeat, (Machine, BlankSeat)>
     ensures sole { IfErr result (λ kept. IsSole kept.0) }
     ensures start { IfErr result (λ kept. kept.0.start ≡ start) }
 {
-    match common.tree.take(common.tree.dim(), start) {
+    match common.tree.take_exact(common.tree.dim(), start) {
         Ok(held) => Ok(common.tree.release(held).into_seat()),
         Err(refused) => {
             let machine = Machine {

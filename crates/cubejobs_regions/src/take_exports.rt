@@ -1,6 +1,6 @@
 //! The functions of the library that take blocks, under the names that C declares.
 ghost use Rattle.std.specs.Prelude.{◌≡◌, ◌≢◌, ◌<◌, ◌≤◌, ◌⊎◌};
-ghost use Rattle.bitmap_tree.specs.Bounds.{block_steps, quick_steps, take_steps};
+ghost use Rattle.bitmap_tree.specs.Bounds.{block_steps, exact_steps, take_steps};
 ghost use Rattle.cubejobs_regions.specs.Answers.{region_at, region_of};
 ghost use Rattle.cubejobs_regions.specs.Handle.{machine_of, refusal_of_filling};
 ghost use Rattle.cubejobs_regions.specs.Holding.{trail_of};
@@ -29,7 +29,7 @@ pub extern "C" fn cubejobs_regions_take(
     ensures tried { refusal_of_filling region.old ≡ DONE
         → OnMachine (λ machine. k ≤ dim_of_machine machine) (machine_of thread.old)
         → (result.code ≡ DONE) ⊎ (result.code ≡ NOT_NOW) }
-    ensures answered { IsAnsweredBy quick_steps (machine_of thread.old) region.old region.new
+    ensures answered { IsAnsweredBy take_steps (machine_of thread.old) region.old region.new
         result }
     ensures dimension { result.code ≡ DONE → result.dim ≡ k }
     ensures machine { machine_of thread.new ≡ machine_of thread.old }
@@ -59,7 +59,7 @@ pub extern "C" fn cubejobs_regions_take_exact(
     ensures tried { refusal_of_filling region.old ≡ DONE
         → OnMachine (λ machine. k ≤ dim_of_machine machine) (machine_of thread.old)
         → (result.code ≡ DONE) ⊎ (result.code ≡ NO_ROOM) ⊎ (result.code ≡ NOT_NOW) }
-    ensures answered { IsAnsweredBy take_steps (machine_of thread.old) region.old region.new
+    ensures answered { IsAnsweredBy exact_steps (machine_of thread.old) region.old region.new
         result }
     ensures dimension { result.code ≡ DONE → result.dim ≡ k }
     ensures found { (result.code ≡ NO_ROOM) ⊎ (result.code ≡ NOT_NOW)

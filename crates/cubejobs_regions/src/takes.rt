@@ -1,7 +1,7 @@
 //! Takes of a block into a handle.
 ghost use Rattle.std.specs.Prelude.{◌≡◌, ◌≢◌, ◌<◌, ◌≤◌, ◌⊎◌, Some, None, true, false};
 ghost use Rattle.cube_shape.specs.Region.{IsAligned};
-ghost use Rattle.bitmap_tree.specs.Bounds.{block_steps, quick_steps, take_steps};
+ghost use Rattle.bitmap_tree.specs.Bounds.{block_steps, exact_steps, take_steps};
 ghost use Rattle.bitmap_tree.specs.Handles.{held_region};
 ghost use Rattle.cubejobs_regions.specs.Answers.{region_of, NamesNone};
 ghost use Rattle.cubejobs_regions.specs.Handle.{machine_of, refusal_of_filling, refusal_of_take};
@@ -71,7 +71,7 @@ pub(crate) fn take(machine: &Machine, region: &mut BlockHandle, k: u32) -> Answe
     ensures bad_dimension { dim_of_machine machine.now < k → result.code ≡ BAD_DIMENSION }
     ensures tried { k ≤ dim_of_machine machine.now
         → (result.code ≡ DONE) ⊎ (result.code ≡ NOT_NOW) }
-    ensures answered { IsAnsweredBy quick_steps (Some machine.now) region.old region.new result }
+    ensures answered { IsAnsweredBy take_steps (Some machine.now) region.old region.new result }
     ensures dimension { result.code ≡ DONE → result.dim ≡ k }
     ensures unchanged { result.code ≢ DONE → region.new ≡ region.old }
     ensures quiet { result.contended ≡ 0 }
@@ -80,7 +80,7 @@ pub(crate) fn take(machine: &Machine, region: &mut BlockHandle, k: u32) -> Answe
     if k > common.tree.dim() {
         return refused(BAD_DIMENSION, 0);
     }
-    match common.tree.take_quick(k, machine.start) {
+    match common.tree.take(k, machine.start) {
         Ok(held) => fill(common.number, region, held),
         Err(_) => refused(NOT_NOW, 0),
     }
@@ -92,7 +92,7 @@ pub(crate) fn take_exact(machine: &Machine, region: &mut BlockHandle, k: u32) ->
     ensures bad_dimension { dim_of_machine machine.now < k → result.code ≡ BAD_DIMENSION }
     ensures tried { k ≤ dim_of_machine machine.now
         → (result.code ≡ DONE) ⊎ (result.code ≡ NO_ROOM) ⊎ (result.code ≡ NOT_NOW) }
-    ensures answered { IsAnsweredBy take_steps (Some machine.now) region.old region.new result }
+    ensures answered { IsAnsweredBy exact_steps (Some machine.now) region.old region.new result }
     ensures dimension { result.code ≡ DONE → result.dim ≡ k }
     ensures found { (result.code ≡ NO_ROOM) ⊎ (result.code ≡ NOT_NOW)
         → FoundNoRoom (dim_of_machine machine.now) k result.contended (trail_of region.new) }
@@ -102,7 +102,7 @@ pub(crate) fn take_exact(machine: &Machine, region: &mut BlockHandle, k: u32) ->
     if k > common.tree.dim() {
         return refused(BAD_DIMENSION, 0);
     }
-    match common.tree.take(k, machine.start) {
+    match common.tree.take_exact(k, machine.start) {
         Ok(held) => fill(common.number, region, held),
         Err(refusal) => {
             let disturbed = refusal.disturbed;

@@ -25,13 +25,13 @@ fn use_machine<R: Print>(rt: &R, alloc: Global, tree: BitmapTree) -> io::Result<
     requires anyone { permits_of tree ≡ 0 }
     requires dim { dim_of tree ≡ 10 }
 {
-    let taken = match tree.take_quick(5, 100) {
+    let taken = match tree.take(5, 100) {
         Ok(held) => {
             let base = held.region().base;
             tree.release(held);
-            tell(rt, "take_quick", &[base])
+            tell(rt, "take", &[base])
         }
-        Err(_seat) => tell(rt, "take_quick", &[]),
+        Err(_seat) => tell(rt, "take", &[]),
     };
     let words = tree.close(Vec::new(alloc));
     taken?;

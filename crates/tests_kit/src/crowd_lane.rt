@@ -89,7 +89,7 @@ impl CrowdLane {
             return;
         }
         let k = self.dimension();
-        match tree.take_quick(k, self.below(4096)) {
+        match tree.take(k, self.below(4096)) {
             Ok(held) => {
                 let faults = owners.enter(held.region());
                 self.faults = self.faults.wrapping_add(faults);

@@ -38,7 +38,7 @@ fn takes_all(tree: &BitmapTree) -> bool
     requires anyone { permits_of tree.now ≡ 0 }
     requires dim { dim_of tree.now ≡ 12 }
 {
-    match tree.take_quick(12, 0) {
+    match tree.take(12, 0) {
         Ok(held) => {
             tree.release(held);
             true

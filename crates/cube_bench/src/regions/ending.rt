@@ -77,7 +77,7 @@ pub(crate) fn end_lanes(tree: &BitmapTree, mut lanes: Vec<Lane>)
 pub(crate) fn is_whole(tree: &BitmapTree) -> bool
     requires { permits_of tree.now ≡ 0 }
 {
-    match tree.take_quick(tree.dim(), 0) {
+    match tree.take(tree.dim(), 0) {
         Ok(whole) => {
             tree.release(whole);
             true

@@ -24,7 +24,7 @@ fn take_and_keep(tree: &BitmapTree, held: &mut Vec<HeldBlock>, k: u32, start: u6
     if held.reserve(1).is_err() {
         return false;
     }
-    match tree.take_quick(k, start) {
+    match tree.take(k, start) {
         Ok(block) => {
             held.push_reserved(block);
             true

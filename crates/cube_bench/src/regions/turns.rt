@@ -19,7 +19,7 @@ fn take_and_release(tree: &BitmapTree, lane: &mut Lane)
         high,
         ..
     } = lane.plan;
-    match tree.take_quick(lane.random.dim(low, high), start) {
+    match tree.take(lane.random.dim(low, high), start) {
         Ok(held) => {
             tree.release(held);
         }
@@ -38,7 +38,7 @@ fn take_exactly_and_release(tree: &BitmapTree, lane: &mut Lane)
         high,
         ..
     } = lane.plan;
-    match tree.take(lane.random.dim(low, high), start) {
+    match tree.take_exact(lane.random.dim(low, high), start) {
         Ok(held) => {
             tree.release(held);
         }
@@ -87,7 +87,7 @@ fn take_and_keep(tree: &BitmapTree, lane: &mut Lane, budget: u64)
     if lane.held.reserve(1).is_err() {
         return;
     }
-    match tree.take_quick(k, plan.start) {
+    match tree.take(k, plan.start) {
         Ok(held) => {
             lane.in_use = lane.in_use.wrapping_add(1 << k);
             lane.held.push_reserved(held);

@@ -29,7 +29,7 @@ fn work(tree: &BitmapTree, workload: Workload, lane: &mut Lane)
     let near = STRIDE * lane.number as u64 % (1 << DIM);
     for index in 0..workload.turns {
         let k = dim_of(workload.sizes, lane.number, index);
-        if let Ok(held) = tree.take_quick(k, near) {
+        if let Ok(held) = tree.take(k, near) {
             tree.release(held);
             lane.given = lane.given.wrapping_add(1);
         }

@@ -39,7 +39,7 @@ fn work(tree: &BitmapTree, owners: &[AtomicU64], lane: &mut Lane)
 {
     let mut k = 0;
     for _ in 0..lane.turns {
-        if let Ok(held) = tree.take_quick(k, lane.processor % 8192) {
+        if let Ok(held) = tree.take(k, lane.processor % 8192) {
             let region = held.region();
             let first = count(owners, region, 0, 1);
             let second = count(owners, region, 1, 0);

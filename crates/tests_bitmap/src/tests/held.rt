@@ -25,7 +25,7 @@ pub(crate) fn taken(rt: &impl Abort, tree: &BitmapTree, k: u32, base: u64) -> He
     requires fits { k ≤ dim_of tree.now }
     ensures { IsHeldOf tree.now result }
 {
-    match tree.take_quick(k, 0) {
+    match tree.take(k, 0) {
         Ok(held) => {
             assert!(rt; held.region() == Region { base, dim: k });
             held

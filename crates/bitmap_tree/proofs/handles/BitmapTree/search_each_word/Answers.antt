@@ -2,7 +2,7 @@ use Rattle.std.proofs.Common.{◌/◌, arith}
 use Rattle.bitmap_tree.specs.Handles.{dim_of}
 use Rattle.bitmap_tree.proofs.FreeLemmas.{no_block}
 use Rattle.bitmap_tree.proofs.SweepLemmas.{swept_all, used_kept}
-use Rattle.bitmap_tree.proofs.handles.BitmapTree.take_exactly.Goals as goal
+use Rattle.bitmap_tree.proofs.handles.BitmapTree.search_each_word.Goals as goal
 
 pub returns-in-Err-clause-alone : goal.returns-in-Err-clause-alone
 returns-in-Err-clause-alone c = λ words alone.
