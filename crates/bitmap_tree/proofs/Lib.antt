@@ -9,4 +9,5 @@ pub mod FreeLemmas
 pub mod HalfLemmas
 pub mod SweepLemmas
 pub mod BlockLemmas
+pub mod SeatLemmas
 mod SeatFields

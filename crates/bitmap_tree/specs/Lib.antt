@@ -8,6 +8,7 @@ pub mod InnerHiddenSeat
 pub mod InnerLayout
 pub mod InnerMarks
 pub mod InnerRule
+pub mod InnerSeats
 pub mod InnerSteps
 pub mod InnerTrail
 pub mod Layout

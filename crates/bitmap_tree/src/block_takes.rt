@@ -3,9 +3,10 @@ ghost use Rattle.std.specs.Prelude.{◌≡◌, ℕ, ◌+◌, ◌*◌, ◌/◌, �
 ghost use Rattle.bitmap_tree.specs.Rule.{first_word, word_count};
 ghost use Rattle.bitmap_tree.specs.Layout.{HasRun, run_of, unit_around};
 ghost use Rattle.bitmap_tree.specs.InnerLayout.{HasTaken, IsBlank, IsIn, Grows};
-ghost use Rattle.bitmap_tree.specs.InnerTrail.{KeepsRight, IsSetIn, StepsOn, left_by};
+ghost use Rattle.bitmap_tree.specs.InnerSeats.{MayTake, StaysSeat};
+ghost use Rattle.bitmap_tree.specs.InnerTrail.{IsSetIn, StepsOn, left_by};
 ghost use Rattle.bitmap_tree.specs.Trail.{WasClaimed, WasDisturbed, WasTaken};
-ghost use Rattle.bitmap_tree.specs.Handles.{id_of, dim_of, MayClaim};
+ghost use Rattle.bitmap_tree.specs.Handles.{id_of, dim_of};
 
 use crate::handles::BitmapTree;
 use crate::layout::{block_at, first_word};
@@ -24,14 +25,11 @@ impl BitmapTree {
         block: Region,
         tries: u32,
     ) -> Result<(), u32>
-        requires table { seat.old.table_id ≡ id_of self.now }
-        requires may { MayClaim self.now seat.old.me }
+        requires may { MayTake self.now seat.old }
         requires block { IsIn (dim_of self.now) block.dim block }
-        requires blank { IsBlank seat.old.me }
         requires some { 0 < tries }
         requires tries { tries ≤ TRIES }
-        ensures table { seat.new.table_id ≡ id_of self.now }
-        ensures permits { seat.new.me.0.permits ≡ seat.old.me.0.permits }
+        ensures stays { StaysSeat self.now seat.old seat.new }
         ensures taken { IfOk result (λ _.
             HasTaken (dim_of self.now) block.dim seat.new.me block) }
         ensures blank { IfErr result (λ _. IsBlank seat.new.me) }
@@ -47,7 +45,6 @@ impl BitmapTree {
             + block.base / 2 ^ (6 * (block.dim / 6)) / 64)
             (first_word (dim_of self.now / 6 - block.dim / 6)
             + block.base / 2 ^ (6 * (block.dim / 6)) / 64 + 1) seat.old.me seat.new.me }
-        ensures right { KeepsRight (dim_of self.now) seat.old.me seat.new.me }
         ensures grows { Grows (1 + TRIES) seat.old.me seat.new.me }
     {
         let level = block.dim / 6;
@@ -77,11 +74,9 @@ impl BitmapTree {
             × IsIn (dim_of self.now) unit.dim unit }
         requires block { IsIn (dim_of self.now) block.dim block }
         requires inside { block.base / 2 ^ unit.dim ≡ unit.base / 2 ^ unit.dim }
-        ensures table { seat.new.table_id ≡ id_of self.now }
-        ensures permits { seat.new.me.0.permits ≡ seat.old.me.0.permits }
+        ensures stays { StaysSeat self.now seat.old seat.new }
         ensures taken { HasRun (run_of (dim_of self.now) block) seat.new.me }
         ensures claimed { WasClaimed (run_of (dim_of self.now) block) seat.new.me.0.trail }
-        ensures right { KeepsRight (dim_of self.now) seat.old.me seat.new.me }
         ensures grows { Grows 1 seat.old.me seat.new.me }
     {
         let level = block.dim / 6;
@@ -106,10 +101,8 @@ impl BitmapTree {
             × IsIn (dim_of self.now) unit.dim unit }
         requires block { IsIn (dim_of self.now) block.dim block }
         requires inside { block.base / 2 ^ unit.dim ≡ unit.base / 2 ^ unit.dim }
-        ensures table { seat.new.table_id ≡ id_of self.now }
-        ensures permits { seat.new.me.0.permits ≡ seat.old.me.0.permits }
+        ensures stays { StaysSeat self.now seat.old seat.new }
         ensures taken { HasTaken (dim_of self.now) block.dim seat.new.me block }
-        ensures right { KeepsRight (dim_of self.now) seat.old.me seat.new.me }
         ensures grows { Grows (unit.dim / 6 - block.dim / 6) seat.old.me seat.new.me }
     {
         let top = unit.dim / 6;
@@ -130,10 +123,8 @@ impl BitmapTree {
         requires above { k / 6 < unit.dim / 6 }
         requires unit { HasRun (run_of (dim_of self.now) unit) seat.old.me
             × IsIn (dim_of self.now) unit.dim unit }
-        ensures table { seat.new.table_id ≡ id_of self.now }
-        ensures permits { seat.new.me.0.permits ≡ seat.old.me.0.permits }
+        ensures stays { StaysSeat self.now seat.old seat.new }
         ensures taken { HasTaken (dim_of self.now) k seat.new.me result }
-        ensures right { KeepsRight (dim_of self.now) seat.old.me seat.new.me }
         ensures grows { Grows (unit.dim / 6 - k / 6) seat.old.me seat.new.me }
     {
         let block = Region {
@@ -147,12 +138,9 @@ impl BitmapTree {
     // Takes one block: in its word, and else from the unit around it in a level above, the lowest
     // first.
     pub(crate) fn take_path(&self, seat: &mut BlockSeat, block: Region) -> Result<(), u32>
-        requires table { seat.old.table_id ≡ id_of self.now }
-        requires may { MayClaim self.now seat.old.me }
+        requires may { MayTake self.now seat.old }
         requires block { IsIn (dim_of self.now) block.dim block }
-        requires blank { IsBlank seat.old.me }
-        ensures table { seat.new.table_id ≡ id_of self.now }
-        ensures permits { seat.new.me.0.permits ≡ seat.old.me.0.permits }
+        ensures stays { StaysSeat self.now seat.old seat.new }
         ensures taken { IfOk result (λ _.
             HasTaken (dim_of self.now) block.dim seat.new.me block) }
         ensures blank { IfErr result (λ _. IsBlank seat.new.me) }
@@ -168,7 +156,6 @@ impl BitmapTree {
         ensures kept { IfErr result (λ _.
             StepsOn 0 (first_word (dim_of self.now / 6 + 1 - block.dim / 6)) seat.old.me
             seat.new.me) }
-        ensures right { KeepsRight (dim_of self.now) seat.old.me seat.new.me }
         ensures grows { Grows (4 + 9 * (dim_of self.now / 6 + 1 - block.dim / 6)) seat.old.me
             seat.new.me }
     {
@@ -193,10 +180,8 @@ impl BitmapTree {
         requires block { IsIn (dim_of self.now) block.dim block }
         requires low { block.dim / 6 ≤ level }
         requires around { unit ≡ unit_around level block }
-        ensures table { seat.new.table_id ≡ id_of self.now }
-        ensures permits { seat.new.me.0.permits ≡ seat.old.me.0.permits }
+        ensures stays { StaysSeat self.now seat.old seat.new }
         ensures taken { HasTaken (dim_of self.now) block.dim seat.new.me block }
-        ensures right { KeepsRight (dim_of self.now) seat.old.me seat.new.me }
         ensures grows { Grows (unit.dim / 6 - block.dim / 6) seat.old.me seat.new.me }
     {
         if block.dim / 6 >= unit.dim / 6 {

@@ -4,7 +4,8 @@ ghost use Rattle.bitmap_tree.specs.Bounds.{release_steps};
 ghost use Rattle.bitmap_tree.specs.Rule.{first_word, word_count};
 ghost use Rattle.bitmap_tree.specs.Layout.{HasRun, run_of};
 ghost use Rattle.bitmap_tree.specs.InnerLayout.{IsBlank, IsIn, Grows};
-ghost use Rattle.bitmap_tree.specs.InnerTrail.{KeepsRight, HasBit, KeepsReleases, StepsOn, left_by};
+ghost use Rattle.bitmap_tree.specs.InnerSeats.{MayTake, StaysSeat};
+ghost use Rattle.bitmap_tree.specs.InnerTrail.{HasBit, KeepsReleases, StepsOn, left_by};
 ghost use Rattle.bitmap_tree.specs.Trail.{AreRightSteps, WasReleased};
 ghost use Rattle.bitmap_tree.specs.Handles.{id_of, dim_of, held_region, held_trail, released_trail, IsHeldOf, MayClaim};
 
@@ -25,15 +26,13 @@ impl BitmapTree {
         requires may { MayClaim self.now seat.old.me }
         requires region { HasRun (run_of (dim_of self.now) region) seat.old.me
             × IsIn (dim_of self.now) region.dim region }
-        ensures table { seat.new.table_id ≡ id_of self.now }
-        ensures permits { seat.new.me.0.permits ≡ seat.old.me.0.permits }
+        ensures stays { StaysSeat self.now seat.old seat.new }
         ensures blank { IsBlank seat.new.me }
         ensures cleared { WasReleased (run_of (dim_of self.now) region) seat.old.me.0.trail
             seat.new.me.0.trail }
         ensures kept { KeepsReleases seat.old.me seat.new.me }
         ensures below { (w : ℕ) → first_word (dim_of self.now / 6 + 1 - region.dim / 6) ≤ w
             → left_by seat.new.me.0.trail w ≡ left_by seat.old.me.0.trail w }
-        ensures right { KeepsRight (dim_of self.now) seat.old.me seat.new.me }
         ensures grows { Grows 1 seat.old.me seat.new.me }
     {
         let level = region.dim / 6;
@@ -49,13 +48,10 @@ impl BitmapTree {
 
     // Shuts a word of a level where it is empty: the unit over it, which the seat then has.
     pub(crate) fn shut_unit(&self, seat: &mut BlockSeat, level: u32, number: u32) -> Option<Region>
-        requires table { seat.old.table_id ≡ id_of self.now }
-        requires may { MayClaim self.now seat.old.me }
+        requires may { MayTake self.now seat.old }
         requires level { level < dim_of self.now / 6 }
         requires number { number < 2 ^ (dim_of self.now - 6 * level - 6) }
-        requires blank { IsBlank seat.old.me }
-        ensures table { seat.new.table_id ≡ id_of self.now }
-        ensures permits { seat.new.me.0.permits ≡ seat.old.me.0.permits }
+        ensures stays { StaysSeat self.now seat.old seat.new }
         ensures taken { IfSome result (λ r. HasRun (run_of (dim_of self.now) r) seat.new.me
             × IsIn (dim_of self.now) (6 * level + 6) r) }
         ensures blank { IfNone result (IsBlank seat.new.me) }
@@ -63,7 +59,6 @@ impl BitmapTree {
             (first_word (dim_of self.now / 6 - level) + number)) 0 64 }
         ensures steps { StepsOn (first_word (dim_of self.now / 6 - level) + number)
             (first_word (dim_of self.now / 6 - level) + number + 1) seat.old.me seat.new.me }
-        ensures right { KeepsRight (dim_of self.now) seat.old.me seat.new.me }
         ensures grows { Grows 1 seat.old.me seat.new.me }
     {
         let word = first_word(self.size.dim / 6 - level) + number;
@@ -88,8 +83,7 @@ impl BitmapTree {
         requires may { MayClaim self.now seat.old.me }
         requires region { HasRun (run_of (dim_of self.now) region) seat.old.me
             × IsIn (dim_of self.now) region.dim region }
-        ensures table { seat.new.table_id ≡ id_of self.now }
-        ensures permits { seat.new.me.0.permits ≡ seat.old.me.0.permits }
+        ensures stays { StaysSeat self.now seat.old seat.new }
         ensures taken { IfSome result (λ r. HasRun (run_of (dim_of self.now) r) seat.new.me
             × IsIn (dim_of self.now) (6 * (region.dim / 6) + 6) r) }
         ensures blank { IfNone result (IsBlank seat.new.me) }
@@ -98,7 +92,6 @@ impl BitmapTree {
         ensures kept { KeepsReleases seat.old.me seat.new.me }
         ensures below { (w : ℕ) → first_word (dim_of self.now / 6 + 1 - region.dim / 6) ≤ w
             → left_by seat.new.me.0.trail w ≡ left_by seat.old.me.0.trail w }
-        ensures right { KeepsRight (dim_of self.now) seat.old.me seat.new.me }
         ensures grows { Grows 2 seat.old.me seat.new.me }
     {
         let level = region.dim / 6;
@@ -122,14 +115,12 @@ impl BitmapTree {
         requires may { MayClaim self.now seat.old.me }
         requires region { HasRun (run_of (dim_of self.now) region) seat.old.me
             × IsIn (dim_of self.now) region.dim region }
-        ensures table { seat.new.table_id ≡ id_of self.now }
-        ensures permits { seat.new.me.0.permits ≡ seat.old.me.0.permits }
+        ensures stays { StaysSeat self.now seat.old seat.new }
         ensures blank { IsBlank seat.new.me }
         ensures cleared { WasReleased (run_of (dim_of self.now) region) seat.old.me.0.trail
             seat.new.me.0.trail }
         ensures below { (w : ℕ) → first_word (dim_of self.now / 6 + 1 - region.dim / 6) ≤ w
             → left_by seat.new.me.0.trail w ≡ left_by seat.old.me.0.trail w }
-        ensures right { KeepsRight (dim_of self.now) seat.old.me seat.new.me }
         ensures grows { Grows 8 seat.old.me seat.new.me }
     {
         let Some(unit) = self.release_once(seat, region) else {
@@ -146,15 +137,11 @@ impl BitmapTree {
 
     // Shuts the spare at a place of a level: whether it did.
     fn shut_spare(&self, seat: &mut BlockSeat, level: u32, place: u32) -> bool
-        requires table { seat.old.table_id ≡ id_of self.now }
-        requires may { MayClaim self.now seat.old.me }
+        requires may { MayTake self.now seat.old }
         requires level { level < dim_of self.now / 6 }
         requires place { place < SPARES }
-        requires blank { IsBlank seat.old.me }
-        ensures table { seat.new.table_id ≡ id_of self.now }
-        ensures permits { seat.new.me.0.permits ≡ seat.old.me.0.permits }
+        ensures stays { StaysSeat self.now seat.old seat.new }
         ensures blank { IsBlank seat.new.me }
-        ensures right { KeepsRight (dim_of self.now) seat.old.me seat.new.me }
         ensures grows { Grows 9 seat.old.me seat.new.me }
     {
         let Some(number) = self.spares.drain(level, place) else {
@@ -175,14 +162,10 @@ impl BitmapTree {
     // Shuts the spares of the levels below one, the lowest first: whether it shut any.
     #[inline(never)]
     pub(crate) fn shut_spares(&self, seat: &mut BlockSeat, level: u32) -> bool
-        requires table { seat.old.table_id ≡ id_of self.now }
-        requires may { MayClaim self.now seat.old.me }
+        requires may { MayTake self.now seat.old }
         requires level { level ≤ dim_of self.now / 6 }
-        requires blank { IsBlank seat.old.me }
-        ensures table { seat.new.table_id ≡ id_of self.now }
-        ensures permits { seat.new.me.0.permits ≡ seat.old.me.0.permits }
+        ensures stays { StaysSeat self.now seat.old seat.new }
         ensures blank { IsBlank seat.new.me }
-        ensures right { KeepsRight (dim_of self.now) seat.old.me seat.new.me }
         ensures grows { Grows (3 * (9 * SPARES)) seat.old.me seat.new.me }
     {
         let mut shut = false;

@@ -3,9 +3,10 @@ ghost use Rattle.std.specs.Prelude.{◌≡◌, ℕ, ◌+◌, ◌*◌, ◌/◌, �
 ghost use Rattle.bitmap_tree.specs.Rule.{first_word, word_count};
 ghost use Rattle.bitmap_tree.specs.Layout.{HasRun, run_of};
 ghost use Rattle.bitmap_tree.specs.InnerLayout.{HasTaken, IsBlank, IsIn, Grows};
-ghost use Rattle.bitmap_tree.specs.InnerTrail.{KeepsRight, IsFullWord, StepsOn, left_by};
+ghost use Rattle.bitmap_tree.specs.InnerSeats.{MayTake, StaysSeat};
+ghost use Rattle.bitmap_tree.specs.InnerTrail.{IsFullWord, StepsOn, left_by};
 ghost use Rattle.bitmap_tree.specs.Trail.{WasClaimed, WasDisturbed, WasEachTaken, WasRefused};
-ghost use Rattle.bitmap_tree.specs.Handles.{id_of, dim_of, MayClaim};
+ghost use Rattle.bitmap_tree.specs.Handles.{dim_of};
 
 use crate::handles::BitmapTree;
 use crate::layout::words_in;
@@ -16,12 +17,9 @@ use cube_shape::{MAX_BITMAP_DIM, Region};
 impl BitmapTree {
     // Takes a block of dimension `k` in the words of its level, one after another.
     fn take_words(&self, seat: &mut BlockSeat, k: u32) -> Result<Region, u32>
-        requires table { seat.old.table_id ≡ id_of self.now }
-        requires may { MayClaim self.now seat.old.me }
+        requires may { MayTake self.now seat.old }
         requires fits { k ≤ dim_of self.now }
-        requires blank { IsBlank seat.old.me }
-        ensures table { seat.new.table_id ≡ id_of self.now }
-        ensures permits { seat.new.me.0.permits ≡ seat.old.me.0.permits }
+        ensures stays { StaysSeat self.now seat.old seat.new }
         ensures taken { IfOk result (HasTaken (dim_of self.now) k seat.new.me) }
         ensures blank { IfErr result (λ _. IsBlank seat.new.me) }
         ensures refused { IfErr result (λ contended. contended ≡ 0
@@ -36,7 +34,6 @@ impl BitmapTree {
         ensures steps { StepsOn (first_word (dim_of self.now / 6 - k / 6))
             (first_word (dim_of self.now / 6 - k / 6) + 2 ^ (dim_of self.now - 6 * (k / 6) - 6))
             seat.old.me seat.new.me }
-        ensures right { KeepsRight (dim_of self.now) seat.old.me seat.new.me }
         ensures grows { Grows (9 * 2 ^ (dim_of self.now - 6 * (k / 6) - 6)) seat.old.me
             seat.new.me }
     {
@@ -52,12 +49,9 @@ impl BitmapTree {
 
     // Takes a block of dimension `k`, and looks at each word of its level and of those above.
     pub(crate) fn take_scanned(&self, seat: &mut BlockSeat, k: u32) -> Result<Region, u32>
-        requires table { seat.old.table_id ≡ id_of self.now }
-        requires may { MayClaim self.now seat.old.me }
+        requires may { MayTake self.now seat.old }
         requires fits { k ≤ dim_of self.now }
-        requires blank { IsBlank seat.old.me }
-        ensures table { seat.new.table_id ≡ id_of self.now }
-        ensures permits { seat.new.me.0.permits ≡ seat.old.me.0.permits }
+        ensures stays { StaysSeat self.now seat.old seat.new }
         ensures taken { IfOk result (HasTaken (dim_of self.now) k seat.new.me) }
         ensures blank { IfErr result (λ _. IsBlank seat.new.me) }
         ensures refused { IfErr result (λ contended. contended ≡ 0
@@ -70,7 +64,6 @@ impl BitmapTree {
             → WasDisturbed seat.new.me.0.trail) }
         ensures kept { IfErr result (λ _.
             StepsOn 0 (first_word (dim_of self.now / 6 + 1 - k / 6)) seat.old.me seat.new.me) }
-        ensures right { KeepsRight (dim_of self.now) seat.old.me seat.new.me }
         ensures grows { Grows (4 + 36 * 2 ^ (dim_of self.now - 6)) seat.old.me seat.new.me }
     {
         let mut contended = 0;

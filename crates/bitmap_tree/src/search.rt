@@ -6,9 +6,10 @@ ghost use Rattle.bitmap_tree.specs.Rule.{run, first_word, word_count};
 ghost use Rattle.bitmap_tree.specs.Layout.{HasRun, run_of};
 ghost use Rattle.bitmap_tree.specs.InnerLayout.{HasTaken, IsBlank, IsIn, Grows};
 ghost use Rattle.bitmap_tree.specs.InnerSteps.{note};
+ghost use Rattle.bitmap_tree.specs.InnerSeats.{MayTake, StaysSeat};
 ghost use Rattle.bitmap_tree.specs.InnerTrail.{KeepsRight, IsFull, IsFullWord, StepsOn, left_by};
 ghost use Rattle.bitmap_tree.specs.Trail.{WasClaimed, WasDisturbed};
-ghost use Rattle.bitmap_tree.specs.Handles.{id_of, dim_of, MayClaim};
+ghost use Rattle.bitmap_tree.specs.Handles.{id_of, dim_of};
 
 use crate::handles::BitmapTree;
 use crate::layout::{block_at, first_word, words_in};
@@ -117,10 +118,8 @@ impl BitmapTree {
         offset: u32,
         k: u32,
     ) -> u64
-        requires table { seat.old.table_id ≡ id_of self.now }
-        requires may { MayClaim self.now seat.old.me }
+        requires may { MayTake self.now seat.old }
         requires word { word < word_count (dim_of self.now) }
-        requires blank { IsBlank seat.old.me }
         requires dim { k ≤ WORD_DIM }
         requires within { offset + 2 ^ k ≤ 64 }
         requires clear { bit_and found (2 ^ (offset + 2 ^ k) - 2 ^ offset) ≡ 0 }
@@ -156,15 +155,12 @@ impl BitmapTree {
         k: u32,
         tries: u32,
     ) -> Result<Region, u32>
-        requires table { seat.old.table_id ≡ id_of self.now }
-        requires may { MayClaim self.now seat.old.me }
+        requires may { MayTake self.now seat.old }
         requires fits { k ≤ dim_of self.now }
         requires number { number < 2 ^ (dim_of self.now - 6 * (k / 6) - 6) }
-        requires blank { IsBlank seat.old.me }
         requires some { 0 < tries }
         requires tries { tries ≤ TRIES }
-        ensures table { seat.new.table_id ≡ id_of self.now }
-        ensures permits { seat.new.me.0.permits ≡ seat.old.me.0.permits }
+        ensures stays { StaysSeat self.now seat.old seat.new }
         ensures taken { IfOk result (HasTaken (dim_of self.now) k seat.new.me) }
         ensures blank { IfErr result (λ _. IsBlank seat.new.me) }
         ensures refused { IfErr result (λ contended. contended ≡ 0
@@ -178,7 +174,6 @@ impl BitmapTree {
         ensures few { IfErr result (λ contended. contended ≤ 1) }
         ensures steps { StepsOn (first_word (dim_of self.now / 6 - k / 6) + number)
             (first_word (dim_of self.now / 6 - k / 6) + number + 1) seat.old.me seat.new.me }
-        ensures right { KeepsRight (dim_of self.now) seat.old.me seat.new.me }
         ensures grows { Grows (1 + TRIES) seat.old.me seat.new.me }
     {
         let level = k / 6;
@@ -215,18 +210,14 @@ impl BitmapTree {
         from: u32,
         tries: u32,
     ) -> Result<Region, bool>
-        requires table { seat.old.table_id ≡ id_of self.now }
-        requires may { MayClaim self.now seat.old.me }
+        requires may { MayTake self.now seat.old }
         requires fits { k ≤ dim_of self.now }
         requires below { k / 6 < dim_of self.now / 6 }
-        requires blank { IsBlank seat.old.me }
         requires some { 0 < tries }
         requires tries { tries ≤ TRIES }
-        ensures table { seat.new.table_id ≡ id_of self.now }
-        ensures permits { seat.new.me.0.permits ≡ seat.old.me.0.permits }
+        ensures stays { StaysSeat self.now seat.old seat.new }
         ensures taken { IfOk result (HasTaken (dim_of self.now) k seat.new.me) }
         ensures blank { IfErr result (λ _. IsBlank seat.new.me) }
-        ensures right { KeepsRight (dim_of self.now) seat.old.me seat.new.me }
         ensures grows { Grows (9 * 2 ^ (dim_of self.now - 6 * (k / 6) - 6)) seat.old.me
             seat.new.me }
     {
@@ -263,18 +254,14 @@ impl BitmapTree {
         processor: u64,
         tries: u32,
     ) -> Result<Region, bool>
-        requires table { seat.old.table_id ≡ id_of self.now }
-        requires may { MayClaim self.now seat.old.me }
+        requires may { MayTake self.now seat.old }
         requires fits { k ≤ dim_of self.now }
         requires processor { processor < 2 ^ dim_of self.now }
-        requires blank { IsBlank seat.old.me }
         requires some { 0 < tries }
         requires tries { tries ≤ TRIES }
-        ensures table { seat.new.table_id ≡ id_of self.now }
-        ensures permits { seat.new.me.0.permits ≡ seat.old.me.0.permits }
+        ensures stays { StaysSeat self.now seat.old seat.new }
         ensures taken { IfOk result (HasTaken (dim_of self.now) k seat.new.me) }
         ensures blank { IfErr result (λ _. IsBlank seat.new.me) }
-        ensures right { KeepsRight (dim_of self.now) seat.old.me seat.new.me }
         ensures grows { Grows (18 * 2 ^ (dim_of self.now - 6)) seat.old.me seat.new.me }
     {
         if k / 6 >= self.size.dim / 6 {
@@ -296,16 +283,12 @@ impl BitmapTree {
 
     // Takes a unit of a level in its open words, if it may have one.
     fn take_unit(&self, seat: &mut BlockSeat, level: u32, processor: u64) -> Option<Region>
-        requires table { seat.old.table_id ≡ id_of self.now }
-        requires may { MayClaim self.now seat.old.me }
+        requires may { MayTake self.now seat.old }
         requires level { level ≤ dim_of self.now / 6 }
         requires processor { processor < 2 ^ dim_of self.now }
-        requires blank { IsBlank seat.old.me }
-        ensures table { seat.new.table_id ≡ id_of self.now }
-        ensures permits { seat.new.me.0.permits ≡ seat.old.me.0.permits }
+        ensures stays { StaysSeat self.now seat.old seat.new }
         ensures taken { IfSome result (HasTaken (dim_of self.now) (6 * level) seat.new.me) }
         ensures blank { IfNone result (IsBlank seat.new.me) }
-        ensures right { KeepsRight (dim_of self.now) seat.old.me seat.new.me }
         ensures grows { Grows (18 * 2 ^ (dim_of self.now - 6)) seat.old.me seat.new.me }
     {
         if !self.has_unit(level) {
@@ -317,16 +300,12 @@ impl BitmapTree {
     // Takes a unit of a level above, the lowest first, and in it the first block of dimension `k`.
     #[inline(never)]
     fn take_above(&self, seat: &mut BlockSeat, k: u32, processor: u64) -> Option<Region>
-        requires table { seat.old.table_id ≡ id_of self.now }
-        requires may { MayClaim self.now seat.old.me }
+        requires may { MayTake self.now seat.old }
         requires fits { k ≤ dim_of self.now }
         requires processor { processor < 2 ^ dim_of self.now }
-        requires blank { IsBlank seat.old.me }
-        ensures table { seat.new.table_id ≡ id_of self.now }
-        ensures permits { seat.new.me.0.permits ≡ seat.old.me.0.permits }
+        ensures stays { StaysSeat self.now seat.old seat.new }
         ensures taken { IfSome result (HasTaken (dim_of self.now) k seat.new.me) }
         ensures blank { IfNone result (IsBlank seat.new.me) }
-        ensures right { KeepsRight (dim_of self.now) seat.old.me seat.new.me }
         ensures grows { Grows (4 + 72 * 2 ^ (dim_of self.now - 6)) seat.old.me seat.new.me }
     {
         for level in k / 6 + 1..self.size.dim / 6 + 1 {
@@ -340,16 +319,12 @@ impl BitmapTree {
     // Takes the unit around a processor one level up, where it is free, and in it the first block
     // of dimension `k`.
     fn take_own(&self, seat: &mut BlockSeat, k: u32, processor: u64) -> Option<Region>
-        requires table { seat.old.table_id ≡ id_of self.now }
-        requires may { MayClaim self.now seat.old.me }
+        requires may { MayTake self.now seat.old }
         requires fits { k ≤ dim_of self.now }
         requires processor { processor < 2 ^ dim_of self.now }
-        requires blank { IsBlank seat.old.me }
-        ensures table { seat.new.table_id ≡ id_of self.now }
-        ensures permits { seat.new.me.0.permits ≡ seat.old.me.0.permits }
+        ensures stays { StaysSeat self.now seat.old seat.new }
         ensures taken { IfSome result (HasTaken (dim_of self.now) k seat.new.me) }
         ensures blank { IfNone result (IsBlank seat.new.me) }
-        ensures right { KeepsRight (dim_of self.now) seat.old.me seat.new.me }
         ensures grows { Grows (4 + 9) seat.old.me seat.new.me }
     {
         if k / 6 >= self.size.dim / 6 {
@@ -366,16 +341,12 @@ impl BitmapTree {
     // free, it goes over the words of its level again, and at last to the levels above.
     #[cold]
     fn take_elsewhere(&self, seat: &mut BlockSeat, k: u32, processor: u64) -> Option<Region>
-        requires table { seat.old.table_id ≡ id_of self.now }
-        requires may { MayClaim self.now seat.old.me }
+        requires may { MayTake self.now seat.old }
         requires fits { k ≤ dim_of self.now }
         requires processor { processor < 2 ^ dim_of self.now }
-        requires blank { IsBlank seat.old.me }
-        ensures table { seat.new.table_id ≡ id_of self.now }
-        ensures permits { seat.new.me.0.permits ≡ seat.old.me.0.permits }
+        ensures stays { StaysSeat self.now seat.old seat.new }
         ensures taken { IfSome result (HasTaken (dim_of self.now) k seat.new.me) }
         ensures blank { IfNone result (IsBlank seat.new.me) }
-        ensures right { KeepsRight (dim_of self.now) seat.old.me seat.new.me }
         ensures grows { Grows (18 + 90 * 2 ^ (dim_of self.now - 6)) seat.old.me seat.new.me }
     {
         if let Some(region) = self.take_own(seat, k, processor) {
@@ -390,16 +361,12 @@ impl BitmapTree {
     // Takes a block of dimension `k` by a seat with an empty run: in its level, and else in a unit
     // of a level above.
     pub(crate) fn take_region(&self, seat: &mut BlockSeat, k: u32, processor: u64) -> Option<Region>
-        requires table { seat.old.table_id ≡ id_of self.now }
-        requires may { MayClaim self.now seat.old.me }
+        requires may { MayTake self.now seat.old }
         requires fits { k ≤ dim_of self.now }
         requires processor { processor < 2 ^ dim_of self.now }
-        requires blank { IsBlank seat.old.me }
-        ensures table { seat.new.table_id ≡ id_of self.now }
-        ensures permits { seat.new.me.0.permits ≡ seat.old.me.0.permits }
+        ensures stays { StaysSeat self.now seat.old seat.new }
         ensures taken { IfSome result (HasTaken (dim_of self.now) k seat.new.me) }
         ensures blank { IfNone result (IsBlank seat.new.me) }
-        ensures right { KeepsRight (dim_of self.now) seat.old.me seat.new.me }
         ensures grows { Grows (18 + 108 * 2 ^ (dim_of self.now - 6)) seat.old.me seat.new.me }
     {
         match self.take_here(seat, k, processor, 1) {

@@ -6,7 +6,7 @@ ghost use Rattle.bitmap_tree.specs.Bounds.{block_steps, exact_steps, take_steps}
 ghost use Rattle.bitmap_tree.specs.Rule.{first_word};
 ghost use Rattle.bitmap_tree.specs.Layout.{HasRun, run_of};
 ghost use Rattle.bitmap_tree.specs.InnerLayout.{HasTaken, IsBlank, IsIn, Grows};
-ghost use Rattle.bitmap_tree.specs.InnerTrail.{KeepsRight};
+ghost use Rattle.bitmap_tree.specs.InnerSeats.{MayTake, StaysSeat};
 ghost use Rattle.bitmap_tree.specs.Trail.{AreRightSteps, IsAlone, WasBlockTaken, WasClaimed, WasDisturbed, WasRefused};
 ghost use Rattle.bitmap_tree.specs.Handles.{id_of, dim_of, held_region, held_trail, refused_trail, permits_of, IsHeldOf, MayClaim};
 
@@ -39,16 +39,12 @@ impl BitmapTree {
     // Takes a block by the marks, by a seat with an empty run.
     #[inline(always)]
     fn search_by_marks(&self, seat: &mut BlockSeat, k: u32, processor: u64) -> Option<Region>
-        requires table { seat.old.table_id ≡ id_of self.now }
-        requires may { MayClaim self.now seat.old.me }
+        requires may { MayTake self.now seat.old }
         requires fits { k ≤ dim_of self.now }
         requires processor { processor < 2 ^ dim_of self.now }
-        requires blank { IsBlank seat.old.me }
-        ensures table { seat.new.table_id ≡ id_of self.now }
-        ensures permits { seat.new.me.0.permits ≡ seat.old.me.0.permits }
+        ensures stays { StaysSeat self.now seat.old seat.new }
         ensures taken { IfSome result (HasTaken (dim_of self.now) k seat.new.me) }
         ensures blank { IfNone result (IsBlank seat.new.me) }
-        ensures right { KeepsRight (dim_of self.now) seat.old.me seat.new.me }
         ensures grows { Grows (252 + 216 * 2 ^ (dim_of self.now - 6)) seat.old.me seat.new.me }
     {
         if let Some(region) = self.take_region(seat, k, processor) {
@@ -90,12 +86,9 @@ impl BitmapTree {
     // dimension. Then it looks at each word of this level and of those above.
     #[cold]
     fn search_each_word(&self, seat: &mut BlockSeat, k: u32) -> Result<Region, u32>
-        requires table { seat.old.table_id ≡ id_of self.now }
-        requires may { MayClaim self.now seat.old.me }
+        requires may { MayTake self.now seat.old }
         requires fits { k ≤ dim_of self.now }
-        requires blank { IsBlank seat.old.me }
-        ensures table { seat.new.table_id ≡ id_of self.now }
-        ensures permits { seat.new.me.0.permits ≡ seat.old.me.0.permits }
+        ensures stays { StaysSeat self.now seat.old seat.new }
         ensures taken { IfOk result (HasTaken (dim_of self.now) k seat.new.me) }
         ensures blank { IfErr result (λ _. IsBlank seat.new.me) }
         ensures refused { IfErr result (λ contended. contended ≡ 0
@@ -105,7 +98,6 @@ impl BitmapTree {
         ensures alone { IfErr result (λ _. (words : List ℕ)
             → IsAlone (slice_index words) seat.new.me.0.trail
             → HasNoBlock (dim_of self.now) k words) }
-        ensures right { KeepsRight (dim_of self.now) seat.old.me seat.new.me }
         ensures grows { Grows (4 + 66 * 2 ^ (dim_of self.now - 6)) seat.old.me seat.new.me }
     {
         let whole = Region {
@@ -127,13 +119,10 @@ impl BitmapTree {
         k: u32,
         processor: u64,
     ) -> Result<Region, u32>
-        requires table { seat.old.table_id ≡ id_of self.now }
-        requires may { MayClaim self.now seat.old.me }
+        requires may { MayTake self.now seat.old }
         requires fits { k ≤ dim_of self.now }
         requires processor { processor < 2 ^ dim_of self.now }
-        requires blank { IsBlank seat.old.me }
-        ensures table { seat.new.table_id ≡ id_of self.now }
-        ensures permits { seat.new.me.0.permits ≡ seat.old.me.0.permits }
+        ensures stays { StaysSeat self.now seat.old seat.new }
         ensures taken { IfOk result (HasTaken (dim_of self.now) k seat.new.me) }
         ensures blank { IfErr result (λ _. IsBlank seat.new.me) }
         ensures refused { IfErr result (λ contended. contended ≡ 0
@@ -143,7 +132,6 @@ impl BitmapTree {
         ensures alone { IfErr result (λ _. (words : List ℕ)
             → IsAlone (slice_index words) seat.new.me.0.trail
             → HasNoBlock (dim_of self.now) k words) }
-        ensures right { KeepsRight (dim_of self.now) seat.old.me seat.new.me }
         ensures grows { Grows (256 + 282 * 2 ^ (dim_of self.now - 6)) seat.old.me seat.new.me }
     {
         match self.search_by_marks(seat, k, processor) {
@@ -210,12 +198,9 @@ impl BitmapTree {
     // Takes one block by a seat with an empty run: a second time once the empty words under it are
     // shut.
     fn take_named(&self, seat: &mut BlockSeat, block: Region) -> Result<(), u32>
-        requires table { seat.old.table_id ≡ id_of self.now }
-        requires may { MayClaim self.now seat.old.me }
+        requires may { MayTake self.now seat.old }
         requires block { IsIn (dim_of self.now) block.dim block }
-        requires blank { IsBlank seat.old.me }
-        ensures table { seat.new.table_id ≡ id_of self.now }
-        ensures permits { seat.new.me.0.permits ≡ seat.old.me.0.permits }
+        ensures stays { StaysSeat self.now seat.old seat.new }
         ensures taken { IfOk result (λ _.
             HasTaken (dim_of self.now) block.dim seat.new.me block) }
         ensures blank { IfErr result (λ _. IsBlank seat.new.me) }
@@ -226,7 +211,6 @@ impl BitmapTree {
         ensures alone { IfErr result (λ _. (words : List ℕ)
             → IsAlone (slice_index words) seat.new.me.0.trail
             → IsInUse (dim_of self.now) words block) }
-        ensures right { KeepsRight (dim_of self.now) seat.old.me seat.new.me }
         ensures grows { Grows (80 + 30 * 2 ^ (dim_of self.now - 6)) seat.old.me seat.new.me }
     {
         if let Ok(()) = self.take_path(seat, block) {

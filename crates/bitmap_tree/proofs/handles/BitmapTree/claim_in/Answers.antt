@@ -10,7 +10,7 @@ use Rattle.bitmap_tree.proofs.SweepLemmas.{exchange_steps}
 use Rattle.bitmap_tree.proofs.handles.BitmapTree.claim_in.Goals as goal
 
 pub claim-requires-clause-changes : goal.claim-requires-clause-changes
-claim-requires-clause-changes c = claims_in c.args.word c.args.offset c.args.k c.args.found c.mask_of.result _ c.requires.blank.0 c.requires.dim c.requires.blank.1.0 c.mask_of.ensures c.requires.within c.requires.clear
+claim-requires-clause-changes c = claims_in c.args.word c.args.offset c.args.k c.args.found c.mask_of.result _ c.requires.may.blank.0 c.requires.dim c.requires.may.blank.1.0 c.mask_of.ensures c.requires.within c.requires.clear
 
 pub returns-clause-claimed : goal.returns-clause-claimed
 returns-clause-claimed c = λ won. claimed_run c.args.word c.args.offset c.args.k c.args.found c.mask_of.result c.args.seat.now.me.0.trail c.claim.new.seat.me.0.trail

@@ -34,6 +34,10 @@ returns-clause-cleared c = cleared_run (dim_of c.args.self.now) c.first_word.res
 pub returns-clause-kept : goal.returns-clause-kept
 returns-clause-kept c = λ r before was. subst (WasReleased r before) (sym (ap (λ (m : Known). m.0.trail) c.clear_run-found.ensures.cleared)) (inr was)
 
-pub returns-clause-right : goal.returns-clause-right
-returns-clause-right c = released_right (dim_of c.args.self.now) c.args.region c.args.seat.now.me c.clear_run-found.new.seat.me _ (aligned_in (dim_of c.args.self.now) c.args.region.dim c.args.region c.requires.region.1) (ap (λ (m : Known). m.0.trail) c.clear_run-found.ensures.cleared)
-    (cleared_note (dim_of c.args.self.now) c.first_word.result (c.args.region.base / 2 ^ (6 * (c.args.region.dim / 6))) c.mask_of-mask.result c.clear_run-found.result c.args.region c.args.seat.now.me.0.runs c.args.seat.now.me.0.trail c.clear_run-found.new.seat.me.0.trail c.requires.region.1 c.requires.region.0.0 c.first_word.ensures.value refl c.mask_of-mask.ensures (search rules) (search rules) c.clear_run-found.ensures.found (ap (λ (m : Known). m.0.trail) c.clear_run-found.ensures.cleared))
+pub returns-clause-stays : goal.returns-clause-stays
+returns-clause-stays c = record {
+  table = c.clear_run-found.ensures.table;
+  permits = ap (λ (m : Known). m.0.permits) c.clear_run-found.ensures.cleared;
+  right = released_right (dim_of c.args.self.now) c.args.region c.args.seat.now.me c.clear_run-found.new.seat.me _ (aligned_in (dim_of c.args.self.now) c.args.region.dim c.args.region c.requires.region.1) (ap (λ (m : Known). m.0.trail) c.clear_run-found.ensures.cleared)
+      (cleared_note (dim_of c.args.self.now) c.first_word.result (c.args.region.base / 2 ^ (6 * (c.args.region.dim / 6))) c.mask_of-mask.result c.clear_run-found.result c.args.region c.args.seat.now.me.0.runs c.args.seat.now.me.0.trail c.clear_run-found.new.seat.me.0.trail c.requires.region.1 c.requires.region.0.0 c.first_word.ensures.value refl c.mask_of-mask.ensures (search rules) (search rules) c.clear_run-found.ensures.found (ap (λ (m : Known). m.0.trail) c.clear_run-found.ensures.cleared));
+}

@@ -1,19 +1,17 @@
 use Rattle.std.proofs.Common.{◌≡◌, ◌≤◌, ◌+◌, ◌-◌, ◌*◌, ◌/◌, ◌^◌}
 use Rattle.bitmap_tree.specs.Layout.{HasRun, run_of}
 use Rattle.bitmap_tree.specs.InnerLayout.{IsIn, Grows}
-use Rattle.bitmap_tree.specs.InnerTrail.{KeepsRight}
-use Rattle.bitmap_tree.specs.Handles.{id_of, dim_of}
+use Rattle.bitmap_tree.specs.InnerSeats.{StaysSeat}
+use Rattle.bitmap_tree.specs.Handles.{dim_of}
 use Rattle.bitmap_tree.proofs.handles.BitmapTree.descend.Given as goal
 
 abbrev pub invariant-loop-down : goal.invariant-loop-down
 invariant-loop-down l = record {
-  table : l.seat.table_id ≡ id_of l.self;
-  permits : l.seat.me.0.permits ≡ l.fn.seat.me.0.permits;
+  stays : StaysSeat l.self l.fn.seat l.seat;
   held : HasRun (run_of (dim_of l.self) l.upper) l.seat.me
       × IsIn (dim_of l.self) l.upper.dim l.upper;
   dim : l.upper.dim ≡ 6 * (l.top - l.down + 1);
   inside : l.block.base / 2 ^ l.upper.dim ≡ l.upper.base / 2 ^ l.upper.dim;
   from : 1 ≤ l.down;
-  right : KeepsRight (dim_of l.self) l.fn.seat.me l.seat.me;
   grows : Grows (l.down - 1) l.fn.seat.me l.seat.me;
 }

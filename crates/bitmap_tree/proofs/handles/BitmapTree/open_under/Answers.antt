@@ -19,6 +19,10 @@ open_word-requires-clause-opens c = opens_unit (dim_of c.args.self.now) c.first_
 pub returns-clause-claimed : goal.returns-clause-claimed
 returns-clause-claimed c = claimed_open (dim_of c.args.self.now) c.first_word.result (c.args.block.base / 2 ^ (6 * (c.args.block.dim / 6))) c.mask_of-mask.result c.args.block c.args.seat.now.me.0.trail _ (ap (λ (m : Known). m.0.trail) c.open_word.ensures.opened) c.first_word.ensures.value refl c.mask_of-mask.ensures
 
-pub returns-clause-right : goal.returns-clause-right
-returns-clause-right c = claim_right (dim_of c.args.self.now) c.args.block c.args.seat.now.me c.open_word.new.seat.me _ (aligned_in (dim_of c.args.self.now) c.args.block.dim c.args.block c.requires.block) (ap (λ (m : Known). m.0.trail) c.open_word.ensures.opened)
-    (claimed_open (dim_of c.args.self.now) c.first_word.result (c.args.block.base / 2 ^ (6 * (c.args.block.dim / 6))) c.mask_of-mask.result c.args.block c.args.seat.now.me.0.trail _ (ap (λ (m : Known). m.0.trail) c.open_word.ensures.opened) c.first_word.ensures.value refl c.mask_of-mask.ensures)
+pub returns-clause-stays : goal.returns-clause-stays
+returns-clause-stays c = record {
+  table = c.open_word.ensures.table;
+  permits = ap (λ (m : Known). m.0.permits) c.open_word.ensures.opened;
+  right = claim_right (dim_of c.args.self.now) c.args.block c.args.seat.now.me c.open_word.new.seat.me _ (aligned_in (dim_of c.args.self.now) c.args.block.dim c.args.block c.requires.block) (ap (λ (m : Known). m.0.trail) c.open_word.ensures.opened)
+      (claimed_open (dim_of c.args.self.now) c.first_word.result (c.args.block.base / 2 ^ (6 * (c.args.block.dim / 6))) c.mask_of-mask.result c.args.block c.args.seat.now.me.0.trail _ (ap (λ (m : Known). m.0.trail) c.open_word.ensures.opened) c.first_word.ensures.value refl c.mask_of-mask.ensures);
+}

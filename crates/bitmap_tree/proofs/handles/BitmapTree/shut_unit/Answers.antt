@@ -29,8 +29,16 @@ pub returns-clause-steps : goal.returns-clause-steps
 returns-clause-steps c = subst (λ f. StepsOn (f + c.args.number) (f + c.args.number + 1) c.args.seat.now.me c.shut.new.seat.me) c.first_word.ensures.value
     (exchange_steps c.args.seat.now.me c.shut.new.seat.me (c.first_word.result + c.args.number) c.shut.result 0 18446744073709551615 _ _ c.shut.ensures.won c.shut.ensures.lost)
 
-pub returns-then-shut-ne0-clause-right : goal.returns-then-shut-ne0-clause-right
-returns-then-shut-ne0-clause-right c = shut_right (dim_of c.args.self.now) c.args.seat.now.me c.shut.new.seat.me (c.first_word.result + c.args.number) c.shut.result _ _ c.shut.ensures.won c.shut.ensures.lost
+pub returns-then-shut-ne0-clause-stays : goal.returns-then-shut-ne0-clause-stays
+returns-then-shut-ne0-clause-stays c = record {
+  table = c.shut.ensures.table;
+  permits = search rules;
+  right = shut_right (dim_of c.args.self.now) c.args.seat.now.me c.shut.new.seat.me (c.first_word.result + c.args.number) c.shut.result _ _ c.shut.ensures.won c.shut.ensures.lost;
+}
 
-pub returns-clause-right : goal.returns-clause-right
-returns-clause-right c = shut_right (dim_of c.args.self.now) c.args.seat.now.me c.shut.new.seat.me (c.first_word.result + c.args.number) c.shut.result _ _ c.shut.ensures.won c.shut.ensures.lost
+pub returns-clause-stays : goal.returns-clause-stays
+returns-clause-stays c = record {
+  table = c.shut.ensures.table;
+  permits = search rules;
+  right = shut_right (dim_of c.args.self.now) c.args.seat.now.me c.shut.new.seat.me (c.first_word.result + c.args.number) c.shut.result _ _ c.shut.ensures.won c.shut.ensures.lost;
+}

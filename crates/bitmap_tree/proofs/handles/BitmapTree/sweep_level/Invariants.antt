@@ -1,14 +1,14 @@
 use Rattle.std.proofs.Common.{◌≡◌, ℕ, ◌≤◌, ◌<◌, ◌+◌, ◌-◌, ◌*◌, ◌/◌}
 use Rattle.bitmap_tree.specs.Rule.{first_word}
 use Rattle.bitmap_tree.specs.InnerLayout.{IsBlank, Grows}
-use Rattle.bitmap_tree.specs.InnerTrail.{KeepsRight, HasBit, left_by}
-use Rattle.bitmap_tree.specs.Handles.{id_of, dim_of}
+use Rattle.bitmap_tree.specs.InnerSeats.{StaysSeat}
+use Rattle.bitmap_tree.specs.InnerTrail.{HasBit, left_by}
+use Rattle.bitmap_tree.specs.Handles.{dim_of}
 use Rattle.bitmap_tree.proofs.handles.BitmapTree.sweep_level.Given as goal
 
 abbrev pub invariant-loop-number : goal.invariant-loop-number
 invariant-loop-number l = record {
-  table : l.seat.table_id ≡ id_of l.self;
-  permits : l.seat.me.0.permits ≡ l.fn.seat.me.0.permits;
+  stays : StaysSeat l.self l.fn.seat l.seat;
   blank : IsBlank l.seat.me;
   from : l.first ≤ l.number;
   used : (w : ℕ)
@@ -18,6 +18,5 @@ invariant-loop-number l = record {
   below : (w : ℕ)
       → first_word (dim_of l.self / 6 + 1 - l.level) ≤ w
       → left_by l.seat.me.0.trail w ≡ left_by l.fn.seat.me.0.trail w;
-  right : KeepsRight (dim_of l.self) l.fn.seat.me l.seat.me;
   grows : Grows (10 * (l.number - l.first)) l.fn.seat.me l.seat.me;
 }

@@ -29,17 +29,19 @@ pub loop-preserved : goal.loop-preserved
 loop-preserved c =
     let trail = c.claim_in-now.ensures.noted c.if-now-found.false in
     record {
-      table = search rules;
-      permits = search rules;
+      stays = record {
+        table = search rules;
+        permits = search rules;
+        right = λ was. c.claim_in-now.ensures.right c.args.block (aligned_in (dim_of c.args.self.now) c.args.block.dim c.args.block c.requires.block)
+            (sym (block_run (dim_of c.args.self.now) c.first_word.result (c.args.block.base / 2 ^ (6 * (c.args.block.dim / 6))) c.args.block c.first_word.ensures.value refl))
+            (c.loop.invariant.stays.right was);
+      };
       blank = c.claim_in-now.ensures.lost c.if-now-found.false;
       shows = shows_now (c.first_word.result + c.args.block.base / 2 ^ (6 * (c.args.block.dim / 6)) / 64) c.claim_in-now.result c.claim_in-now.result c.loop.seat.me.0.trail _ trail;
       newest = left_here (c.first_word.result + c.args.block.base / 2 ^ (6 * (c.args.block.dim / 6)) / 64) c.claim_in-now.result c.claim_in-now.result c.loop.seat.me.0.trail _ trail;
       alone = newest_left c.claim_in-now.new.seat.me (c.first_word.result + c.args.block.base / 2 ^ (6 * (c.args.block.dim / 6)) / 64) c.claim_in-now.result c.claim_in-now.result c.loop.seat.me.0.trail trail;
       lost = λ more. lost_disturbs c.loop.seat.me c.claim_in-now.new.seat.me (c.first_word.result + c.args.block.base / 2 ^ (6 * (c.args.block.dim / 6)) / 64) c.loop.found c.claim_in-now.result trail c.loop.invariant.alone c.if-now-found.false;
       steps = steps_then (c.first_word.result + c.args.block.base / 2 ^ (6 * (c.args.block.dim / 6)) / 64) (c.first_word.result + c.args.block.base / 2 ^ (6 * (c.args.block.dim / 6)) / 64 + 1) c.args.seat.now.me c.loop.seat.me c.claim_in-now.new.seat.me c.loop.invariant.steps c.claim_in-now.ensures.steps;
-      right = λ was. c.claim_in-now.ensures.right c.args.block (aligned_in (dim_of c.args.self.now) c.args.block.dim c.args.block c.requires.block)
-          (sym (block_run (dim_of c.args.self.now) c.first_word.result (c.args.block.base / 2 ^ (6 * (c.args.block.dim / 6))) c.args.block c.first_word.ensures.value refl))
-          (c.loop.invariant.right was);
       grows = search rules;
     }
 
@@ -47,7 +49,11 @@ pub returns-then-now-found-clause-steps : goal.returns-then-now-found-clause-ste
 returns-then-now-found-clause-steps c = subst (λ f. StepsOn (f + c.args.block.base / 2 ^ (6 * (c.args.block.dim / 6)) / 64) (f + c.args.block.base / 2 ^ (6 * (c.args.block.dim / 6)) / 64 + 1) c.args.seat.now.me c.claim_in-now.new.seat.me) c.first_word.ensures.value
     (steps_then (c.first_word.result + c.args.block.base / 2 ^ (6 * (c.args.block.dim / 6)) / 64) (c.first_word.result + c.args.block.base / 2 ^ (6 * (c.args.block.dim / 6)) / 64 + 1) c.args.seat.now.me c.loop.seat.me c.claim_in-now.new.seat.me c.loop.invariant.steps c.claim_in-now.ensures.steps)
 
-pub returns-then-now-found-clause-right : goal.returns-then-now-found-clause-right
-returns-then-now-found-clause-right c = λ was. c.claim_in-now.ensures.right c.args.block (aligned_in (dim_of c.args.self.now) c.args.block.dim c.args.block c.requires.block)
-    (sym (block_run (dim_of c.args.self.now) c.first_word.result (c.args.block.base / 2 ^ (6 * (c.args.block.dim / 6))) c.args.block c.first_word.ensures.value refl))
-    (c.loop.invariant.right was)
+pub returns-then-now-found-clause-stays : goal.returns-then-now-found-clause-stays
+returns-then-now-found-clause-stays c = record {
+  table = search rules;
+  permits = search rules;
+  right = λ was. c.claim_in-now.ensures.right c.args.block (aligned_in (dim_of c.args.self.now) c.args.block.dim c.args.block c.requires.block)
+      (sym (block_run (dim_of c.args.self.now) c.first_word.result (c.args.block.base / 2 ^ (6 * (c.args.block.dim / 6))) c.args.block c.first_word.ensures.value refl))
+      (c.loop.invariant.stays.right was);
+}

@@ -20,15 +20,17 @@ loop-init c =
     let w = c.first_word.result + c.args.number in
     let trail = ap (λ (m : Known). m.0.trail) c.load_word-found.ensures.seat in
     record {
-      table = search rules;
-      permits = search rules;
+      stays = record {
+        table = search rules;
+        permits = search rules;
+        right = look_right (dim_of c.args.self.now) c.args.seat.now.me c.load_word-found.new.seat.me (c.first_word.result + c.args.number) c.load_word-found.result trail;
+      };
       blank = search rules;
       shows = shows_now (c.first_word.result + c.args.number) c.load_word-found.result c.load_word-found.result c.args.seat.now.me.0.trail _ trail;
       newest = left_here (c.first_word.result + c.args.number) c.load_word-found.result c.load_word-found.result c.args.seat.now.me.0.trail _ trail;
       alone = newest_left c.load_word-found.new.seat.me (c.first_word.result + c.args.number) c.load_word-found.result c.load_word-found.result c.args.seat.now.me.0.trail trail;
       lost = λ more. absurd (omega (arith, more));
       steps = steps_one c.args.seat.now.me c.load_word-found.new.seat.me (c.first_word.result + c.args.number) c.load_word-found.result c.load_word-found.result trail;
-      right = look_right (dim_of c.args.self.now) c.args.seat.now.me c.load_word-found.new.seat.me (c.first_word.result + c.args.number) c.load_word-found.result trail;
       grows = search rules;
     }
 
@@ -36,18 +38,20 @@ pub loop-preserved : goal.loop-preserved
 loop-preserved c =
     let trail = c.claim_in-now.ensures.noted c.if-now-found.false in
     record {
-      table = search rules;
-      permits = search rules;
+      stays = record {
+        table = search rules;
+        permits = search rules;
+        right = λ was. c.claim_in-now.ensures.right (record { base = (64 * c.args.number + c.in-Some.offset) * 2 ^ (6 * (c.args.k / 6)) % 18446744073709551616; dim = c.args.k })
+            (found_aligned (dim_of c.args.self.now) c.args.number c.in-Some.offset c.args.k c.args.self.now.dim_in_limits c.requires.fits c.requires.number c.in-Some.ensures.found.0 (subst (λ size. c.in-Some.offset + 2 ^ (c.args.k % 6) ≤ size) c.word_size.ensures.value c.in-Some.ensures.found.1))
+            (sym (taken_run (dim_of c.args.self.now) c.args.number c.in-Some.offset c.args.k c.first_word.result c.args.self.now.dim_in_limits c.requires.fits c.first_word.ensures.value c.requires.number c.in-Some.ensures.found.0 (subst (λ size. c.in-Some.offset + 2 ^ (c.args.k % 6) ≤ size) c.word_size.ensures.value c.in-Some.ensures.found.1)))
+            (c.loop.invariant.stays.right was);
+      };
       blank = c.claim_in-now.ensures.lost c.if-now-found.false;
       shows = shows_now (c.first_word.result + c.args.number) c.claim_in-now.result c.claim_in-now.result c.loop.seat.me.0.trail _ trail;
       newest = left_here (c.first_word.result + c.args.number) c.claim_in-now.result c.claim_in-now.result c.loop.seat.me.0.trail _ trail;
       alone = newest_left c.claim_in-now.new.seat.me (c.first_word.result + c.args.number) c.claim_in-now.result c.claim_in-now.result c.loop.seat.me.0.trail trail;
       lost = λ more. lost_disturbs c.loop.seat.me c.claim_in-now.new.seat.me (c.first_word.result + c.args.number) c.loop.found c.claim_in-now.result trail c.loop.invariant.alone c.if-now-found.false;
       steps = steps_then (c.first_word.result + c.args.number) (c.first_word.result + c.args.number + 1) c.args.seat.now.me c.loop.seat.me c.claim_in-now.new.seat.me c.loop.invariant.steps c.claim_in-now.ensures.steps;
-      right = λ was. c.claim_in-now.ensures.right (record { base = (64 * c.args.number + c.in-Some.offset) * 2 ^ (6 * (c.args.k / 6)) % 18446744073709551616; dim = c.args.k })
-          (found_aligned (dim_of c.args.self.now) c.args.number c.in-Some.offset c.args.k c.args.self.now.dim_in_limits c.requires.fits c.requires.number c.in-Some.ensures.found.0 (subst (λ size. c.in-Some.offset + 2 ^ (c.args.k % 6) ≤ size) c.word_size.ensures.value c.in-Some.ensures.found.1))
-          (sym (taken_run (dim_of c.args.self.now) c.args.number c.in-Some.offset c.args.k c.first_word.result c.args.self.now.dim_in_limits c.requires.fits c.first_word.ensures.value c.requires.number c.in-Some.ensures.found.0 (subst (λ size. c.in-Some.offset + 2 ^ (c.args.k % 6) ≤ size) c.word_size.ensures.value c.in-Some.ensures.found.1)))
-          (c.loop.invariant.right was);
       grows = search rules;
     }
 
@@ -68,8 +72,12 @@ pub returns-then-now-found-clause-steps : goal.returns-then-now-found-clause-ste
 returns-then-now-found-clause-steps c = subst (λ f. StepsOn (f + c.args.number) (f + c.args.number + 1) c.args.seat.now.me c.claim_in-now.new.seat.me) c.first_word.ensures.value
     (steps_then (c.first_word.result + c.args.number) (c.first_word.result + c.args.number + 1) c.args.seat.now.me c.loop.seat.me c.claim_in-now.new.seat.me c.loop.invariant.steps c.claim_in-now.ensures.steps)
 
-pub returns-then-now-found-clause-right : goal.returns-then-now-found-clause-right
-returns-then-now-found-clause-right c = λ was. c.claim_in-now.ensures.right (record { base = (64 * c.args.number + c.in-Some.offset) * 2 ^ (6 * (c.args.k / 6)) % 18446744073709551616; dim = c.args.k })
-    (found_aligned (dim_of c.args.self.now) c.args.number c.in-Some.offset c.args.k c.args.self.now.dim_in_limits c.requires.fits c.requires.number c.in-Some.ensures.found.0 (subst (λ size. c.in-Some.offset + 2 ^ (c.args.k % 6) ≤ size) c.word_size.ensures.value c.in-Some.ensures.found.1))
-    (sym (taken_run (dim_of c.args.self.now) c.args.number c.in-Some.offset c.args.k c.first_word.result c.args.self.now.dim_in_limits c.requires.fits c.first_word.ensures.value c.requires.number c.in-Some.ensures.found.0 (subst (λ size. c.in-Some.offset + 2 ^ (c.args.k % 6) ≤ size) c.word_size.ensures.value c.in-Some.ensures.found.1)))
-    (c.loop.invariant.right was)
+pub returns-then-now-found-clause-stays : goal.returns-then-now-found-clause-stays
+returns-then-now-found-clause-stays c = record {
+  table = search rules;
+  permits = search rules;
+  right = λ was. c.claim_in-now.ensures.right (record { base = (64 * c.args.number + c.in-Some.offset) * 2 ^ (6 * (c.args.k / 6)) % 18446744073709551616; dim = c.args.k })
+      (found_aligned (dim_of c.args.self.now) c.args.number c.in-Some.offset c.args.k c.args.self.now.dim_in_limits c.requires.fits c.requires.number c.in-Some.ensures.found.0 (subst (λ size. c.in-Some.offset + 2 ^ (c.args.k % 6) ≤ size) c.word_size.ensures.value c.in-Some.ensures.found.1))
+      (sym (taken_run (dim_of c.args.self.now) c.args.number c.in-Some.offset c.args.k c.first_word.result c.args.self.now.dim_in_limits c.requires.fits c.first_word.ensures.value c.requires.number c.in-Some.ensures.found.0 (subst (λ size. c.in-Some.offset + 2 ^ (c.args.k % 6) ≤ size) c.word_size.ensures.value c.in-Some.ensures.found.1)))
+      (c.loop.invariant.stays.right was);
+}

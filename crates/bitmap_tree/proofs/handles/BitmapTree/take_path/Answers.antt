@@ -10,6 +10,7 @@ use Rattle.bitmap_tree.proofs.AloneLemmas.{steps_then}
 use Rattle.bitmap_tree.proofs.BlockLemmas.{at_in, path_steps, path_word, set_next, seen_next}
 use Rattle.bitmap_tree.proofs.LayoutLemmas.{base_in}
 use Rattle.bitmap_tree.proofs.SweepLemmas.{disturbed_next}
+use Rattle.bitmap_tree.proofs.SeatLemmas.{stays_then}
 use Rattle.bitmap_tree.proofs.handles.BitmapTree.take_path.Goals as goal
 
 pub take_block-requires-clause-block : goal.take_block-requires-clause-block
@@ -28,8 +29,7 @@ loop-level-preserved c =
     let there = path_word (dim_of c.args.self.now) c.loop-level.level c.args.block c.block_at-unit.result unit_is inside from (omega (arith, test)) in
     let steps = c.take_block.ensures.steps in
     record {
-      table = c.take_block.ensures.table;
-      permits = c.take_block.ensures.permits ∙ c.loop-level.invariant.permits;
+      stays = stays_then c.loop-level.invariant.stays c.take_block.ensures.stays;
       blank = c.in-Err.ensures.blank;
       from = omega (arith, from);
       few = omega (arith, c.loop-level.invariant.few, c.in-Err.ensures.few);
@@ -40,6 +40,5 @@ loop-level-preserved c =
       disturbed = disturbed_next c.loop-level.contended c.in-Err.more c.loop-level.seat.me c.take_block.new.seat.me steps.past c.loop-level.invariant.disturbed c.in-Err.ensures.disturbed;
       kept = steps_then 0 (first_word (dim_of c.args.self.now / 6 + 1 - c.args.block.dim / 6)) c.args.seat.now.me c.loop-level.seat.me c.take_block.new.seat.me c.loop-level.invariant.kept
           (path_steps (dim_of c.args.self.now) (c.args.block.dim / 6) c.loop-level.level _ c.loop-level.seat.me c.take_block.new.seat.me from there steps);
-      right = λ was. c.take_block.ensures.right (c.loop-level.invariant.right was);
       grows = omega (arith, c.loop-level.invariant.grows, c.take_block.ensures.grows, from);
     }

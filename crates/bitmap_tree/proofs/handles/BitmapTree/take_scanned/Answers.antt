@@ -7,6 +7,7 @@ use Rattle.bitmap_tree.proofs.AloneLemmas.{steps_then}
 use Rattle.bitmap_tree.proofs.SweepLemmas.{disturbed_next, left_level_next, level_steps, scan_all, scan_next}
 use Rattle.bitmap_tree.specs.Handles.{dim_of}
 use Rattle.bitmap_tree.proofs.TrailLemmas.{level_next}
+use Rattle.bitmap_tree.proofs.SeatLemmas.{stays_then}
 use Rattle.bitmap_tree.proofs.handles.BitmapTree.take_scanned.Goals as goal
 
 pub loop-level-preserved : goal.loop-level-preserved
@@ -23,8 +24,7 @@ loop-level-preserved c =
     subst (λ d. c.in-Err.more ≡ 0 → (w : ℕ) → w < 2 ^ (dim_of c.args.self.now - 6 * c.loop-level.level - 6) → IsFullWord (2 ^ min (dim_of c.args.self.now - 6 * c.loop-level.level) 6) (d % 6) (left_by c.take_words.new.seat.me.0.trail (first_word (dim_of c.args.self.now / 6 - c.loop-level.level) + w))) same
     (subst (λ l. c.in-Err.more ≡ 0 → (w : ℕ) → w < 2 ^ (dim_of c.args.self.now - 6 * l - 6) → IsFullWord (2 ^ min (dim_of c.args.self.now - 6 * l) 6) (c.max.result % 6) (left_by c.take_words.new.seat.me.0.trail (first_word (dim_of c.args.self.now / 6 - l) + w))) at c.in-Err.ensures.full) in
     record {
-      table = c.take_words.ensures.table;
-      permits = c.take_words.ensures.permits ∙ c.loop-level.invariant.permits;
+      stays = stays_then c.loop-level.invariant.stays c.take_words.ensures.stays;
       blank = c.in-Err.ensures.blank;
       few = omega (arith, c.loop-level.invariant.few, c.in-Err.ensures.few);
       from = omega (arith, c.loop-level.invariant.from);
@@ -34,7 +34,6 @@ loop-level-preserved c =
       disturbed = disturbed_next c.loop-level.contended c.in-Err.more c.loop-level.seat.me c.take_words.new.seat.me steps.past c.loop-level.invariant.disturbed c.in-Err.ensures.disturbed;
       kept = steps_then 0 (first_word (dim_of c.args.self.now / 6 + 1 - c.args.k / 6)) c.args.seat.now.me c.loop-level.seat.me c.take_words.new.seat.me c.loop-level.invariant.kept
           (level_steps (dim_of c.args.self.now) (c.args.k / 6) c.loop-level.level c.loop-level.seat.me c.take_words.new.seat.me (omega (arith, test)) from steps);
-      right = λ was. c.take_words.ensures.right (c.loop-level.invariant.right was);
       grows = scan_next (dim_of c.args.self.now) (c.loop-level.level - c.args.k / 6) (c.loop-level.level + 1 - c.args.k / 6) _ c.args.seat.now.me c.loop-level.seat.me c.take_words.new.seat.me (omega (arith, c.loop-level.invariant.from)) c.loop-level.invariant.grows c.take_words.ensures.grows;
     }
 

@@ -2,15 +2,15 @@ use Rattle.std.proofs.Common.{◌≡◌, ◌≢◌, ◌+◌, ◌*◌, ◌<◌, �
 use Rattle.cube_shape.specs.declared.limits.TheConstants.{MAX_BITMAP_DIM}
 use Rattle.bitmap_tree.specs.Rule.{first_word}
 use Rattle.bitmap_tree.specs.InnerLayout.{IsBlank, Grows}
-use Rattle.bitmap_tree.specs.InnerTrail.{KeepsRight, IsFullWord, StepsOn, left_by}
+use Rattle.bitmap_tree.specs.InnerSeats.{StaysSeat}
+use Rattle.bitmap_tree.specs.InnerTrail.{IsFullWord, StepsOn, left_by}
 use Rattle.bitmap_tree.specs.Trail.{WasDisturbed, WasEachTaken}
-use Rattle.bitmap_tree.specs.Handles.{id_of, dim_of}
+use Rattle.bitmap_tree.specs.Handles.{dim_of}
 use Rattle.bitmap_tree.proofs.handles.BitmapTree.take_scanned.Given as goal
 
 abbrev pub invariant-loop-level : goal.invariant-loop-level
 invariant-loop-level l = record {
-  table : l.seat.table_id ≡ id_of l.self;
-  permits : l.seat.me.0.permits ≡ l.fn.seat.me.0.permits;
+  stays : StaysSeat l.self l.fn.seat l.seat;
   blank : IsBlank l.seat.me;
   few : l.contended ≤ 2 ^ (MAX_BITMAP_DIM - 6) * l.level;
   from : l.k / 6 ≤ l.level;
@@ -28,6 +28,5 @@ invariant-loop-level l = record {
       (left_by l.seat.me.0.trail (first_word (dim_of l.self / 6 - s) + w));
   disturbed : l.contended ≢ 0 → WasDisturbed l.seat.me.0.trail;
   kept : StepsOn 0 (first_word (dim_of l.self / 6 + 1 - l.k / 6)) l.fn.seat.me l.seat.me;
-  right : KeepsRight (dim_of l.self) l.fn.seat.me l.seat.me;
   grows : Grows (9 * ((l.level - l.k / 6) * 2 ^ (dim_of l.self - 6))) l.fn.seat.me l.seat.me;
 }

@@ -1,9 +1,10 @@
-use Rattle.std.proofs.Common.{◌^◌, ◌*◌, ◌-◌, ◌/◌, ◌%◌, ◌+◌, min, ◌∙◌, refl, arith}
+use Rattle.std.proofs.Common.{◌^◌, ◌*◌, ◌-◌, ◌/◌, ◌%◌, ◌+◌, min, refl, arith}
 use Rattle.bitmap_tree.specs.Rule.{first_word}
 use Rattle.bitmap_tree.specs.Handles.{dim_of}
 use Rattle.bitmap_tree.proofs.AloneLemmas.{steps_then, steps_wider}
 use Rattle.bitmap_tree.proofs.SweepLemmas.{disturbed_next, left_full_next}
 use Rattle.bitmap_tree.proofs.TrailLemmas.{full_next, each_taken}
+use Rattle.bitmap_tree.proofs.SeatLemmas.{stays_then}
 use Rattle.bitmap_tree.proofs.handles.BitmapTree.take_words.Goals as goal
 
 pub loop-number-preserved : goal.loop-number-preserved
@@ -11,8 +12,7 @@ loop-number-preserved c =
     let n = dim_of c.args.self.now in
     let test = c.loop-number-test.true in
     record {
-      table = c.take_in.ensures.table;
-      permits = c.take_in.ensures.permits ∙ c.loop-number.invariant.permits;
+      stays = stays_then c.loop-number.invariant.stays c.take_in.ensures.stays;
       blank = c.in-Err.ensures.blank;
       few = omega (arith, c.loop-number.invariant.few, c.in-Err.ensures.few);
       seen = full_next (2 ^ min (dim_of c.args.self.now - 6 * (c.args.k / 6)) 6) (c.args.k % 6) (first_word (dim_of c.args.self.now / 6 - c.args.k / 6)) c.loop-number.number c.loop-number.contended c.in-Err.more c.loop-number.seat.me c.take_in.new.seat.me c.take_in.ensures.steps.keeps c.loop-number.invariant.seen c.in-Err.ensures.refused;
@@ -20,7 +20,6 @@ loop-number-preserved c =
       disturbed = disturbed_next c.loop-number.contended c.in-Err.more c.loop-number.seat.me c.take_in.new.seat.me c.take_in.ensures.steps.past c.loop-number.invariant.disturbed c.in-Err.ensures.disturbed;
       steps = steps_then (first_word (dim_of c.args.self.now / 6 - c.args.k / 6)) (first_word (dim_of c.args.self.now / 6 - c.args.k / 6) + 2 ^ (dim_of c.args.self.now - 6 * (c.args.k / 6) - 6)) c.args.seat.now.me c.loop-number.seat.me c.take_in.new.seat.me c.loop-number.invariant.steps
           (steps_wider (first_word (dim_of c.args.self.now / 6 - c.args.k / 6) + c.loop-number.number) (first_word (dim_of c.args.self.now / 6 - c.args.k / 6) + c.loop-number.number + 1) _ _ c.loop-number.seat.me c.take_in.new.seat.me (omega arith) (omega (arith, c.words_in-number-end.ensures.value, test)) c.take_in.ensures.steps);
-      right = λ was. c.take_in.ensures.right (c.loop-number.invariant.right was);
       grows = omega (arith, c.loop-number.invariant.grows, c.take_in.ensures.grows);
     }
 

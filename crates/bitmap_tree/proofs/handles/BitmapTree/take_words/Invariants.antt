@@ -1,15 +1,15 @@
 use Rattle.std.proofs.Common.{◌≡◌, ◌≢◌, ◌*◌, ◌-◌, ◌<◌, ◌≤◌, ◌^◌, ◌+◌, ◌/◌, ◌%◌, min, ℕ}
 use Rattle.bitmap_tree.specs.Rule.{first_word}
 use Rattle.bitmap_tree.specs.InnerLayout.{IsBlank, Grows}
-use Rattle.bitmap_tree.specs.InnerTrail.{KeepsRight, IsFull, IsFullWord, StepsOn, left_by}
+use Rattle.bitmap_tree.specs.InnerSeats.{StaysSeat}
+use Rattle.bitmap_tree.specs.InnerTrail.{IsFull, IsFullWord, StepsOn, left_by}
 use Rattle.bitmap_tree.specs.Trail.{WasDisturbed}
-use Rattle.bitmap_tree.specs.Handles.{id_of, dim_of}
+use Rattle.bitmap_tree.specs.Handles.{dim_of}
 use Rattle.bitmap_tree.proofs.handles.BitmapTree.take_words.Given as goal
 
 abbrev pub invariant-loop-number : goal.invariant-loop-number
 invariant-loop-number l = record {
-  table : l.seat.table_id ≡ id_of l.self;
-  permits : l.seat.me.0.permits ≡ l.fn.seat.me.0.permits;
+  stays : StaysSeat l.self l.fn.seat l.seat;
   blank : IsBlank l.seat.me;
   few : l.contended ≤ l.number;
   seen : l.contended ≡ 0
@@ -26,6 +26,5 @@ invariant-loop-number l = record {
   steps : StepsOn (first_word (dim_of l.self / 6 - l.k / 6))
       (first_word (dim_of l.self / 6 - l.k / 6) + 2 ^ (dim_of l.self - 6 * (l.k / 6) - 6))
       l.fn.seat.me l.seat.me;
-  right : KeepsRight (dim_of l.self) l.fn.seat.me l.seat.me;
   grows : Grows (9 * l.number) l.fn.seat.me l.seat.me;
 }
