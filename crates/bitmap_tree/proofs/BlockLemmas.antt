@@ -6,6 +6,8 @@ use Rattle.std.proofs.lemmas.Nat.{pow_pos, pow-add}
 use Rattle.std.proofs.Math.Nat.{mul-div_cancel, div-div-eq-div-mul}
 use Rattle.cube_shape.specs.declared.region.Region.{Region}
 use Rattle.cube_shape.specs.Region.{block, IsAligned}
+use Rattle.bitmap_tree.specs.declared.no_block.NoBlock.{NoBlock}
+use Rattle.bitmap_tree.specs.declared.no_block.NoBlock.TheVariants.{Full}
 use Rattle.bitmap_tree.specs.declared.view.Note.{Note}
 use Rattle.bitmap_tree.specs.declared.view.Run.{Run}
 use Rattle.bitmap_tree.specs.Rule.{first_word, has, run, word_count}
@@ -219,51 +221,53 @@ around_word n s q r low in_run =
     omega (arith, in_run, same)
 
 -- one level more was seen set
-pub set_next : (n level w : ℕ) (r : Region) (contended more : ℕ) (old new : Known)
+pub set_next : (n level w : ℕ) (r : Region) (why more both : NoBlock) (old new : Known)
     → level ≤ n / 6
     → w < first_word (n / 6 + 1 - level)
     → StepsOn w (w + 1) old new
-    → (contended ≡ 0
+    → (both ≡ Full → (why ≡ Full) × (more ≡ Full))
+    → (why ≡ Full
     → (s : ℕ)
     → r.dim / 6 ≤ s
     → s < level
     → IsSetIn (left_by old.0.trail) (run_of n (unit_around s r)))
-    → (more ≡ 0 → IsSetIn (left_by new.0.trail) (run_of n (unit_around level r)))
-    → contended + more ≡ 0
+    → (more ≡ Full → IsSetIn (left_by new.0.trail) (run_of n (unit_around level r)))
+    → both ≡ Full
     → (s : ℕ)
     → r.dim / 6 ≤ s
     → s < level + 1
     → IsSetIn (left_by new.0.trail) (run_of n (unit_around s r))
-set_next n level w r contended more old new top there steps before here zero_is s low less = elim (cases_lt s level) [
+set_next n level w r why more both old new top there steps parts before here full s low less = elim (cases_lt s level) [
   | inl earlier ↦
-      let t = before (omega (arith, zero_is)) s low earlier in
+      let t = before (parts full).0 s low earlier in
       let order : first_word (n / 6 + 1 - level) ≤ first_word (n / 6 - s) = first_order (n / 6 + 1 - level) (n / 6 - s) (omega (arith, earlier, top)) in
       let place = around_word n s t.0 r low t.1 in
       let same = steps.elsewhere (t.0 / 64) (inr (omega (arith, order, place, there))) in
       (t.0, t.1, ap (λ x. bit_at x (t.0 % 64)) same ∙ t.2)
   | inr last ↦
       let same : level ≡ s = omega (arith, last, less) in
-      subst (λ x. IsSetIn (left_by new.0.trail) (run_of n (unit_around x r))) same (here (omega (arith, zero_is)))
+      subst (λ x. IsSetIn (left_by new.0.trail) (run_of n (unit_around x r))) same (here (parts full).1)
 ]
 
-pub seen_next : (n level : ℕ) (r : Region) (contended more : ℕ) (old new : Known) (w : ℕ)
+pub seen_next : (n level : ℕ) (r : Region) (why more both : NoBlock) (old new : Known) (w : ℕ)
     → StepsOn w (w + 1) old new
-    → (contended ≡ 0
+    → (both ≡ Full → (why ≡ Full) × (more ≡ Full))
+    → (why ≡ Full
     → (s : ℕ)
     → r.dim / 6 ≤ s
     → s < level
     → WasTaken n old.0.trail (unit_around s r))
-    → (more ≡ 0 → WasTaken n new.0.trail (unit_around level r))
-    → contended + more ≡ 0
+    → (more ≡ Full → WasTaken n new.0.trail (unit_around level r))
+    → both ≡ Full
     → (s : ℕ)
     → r.dim / 6 ≤ s
     → s < level + 1
     → WasTaken n new.0.trail (unit_around s r)
-seen_next n level r contended more old new w steps before here zero_is s low less = elim (cases_lt s level) [
-  | inl earlier ↦ let t = before (omega (arith, zero_is)) s low earlier in (t.0, t.1, steps.keeps t.0 t.2)
+seen_next n level r why more both old new w steps parts before here full s low less = elim (cases_lt s level) [
+  | inl earlier ↦ let t = before (parts full).0 s low earlier in (t.0, t.1, steps.keeps t.0 t.2)
   | inr last ↦
       let same : level ≡ s = omega (arith, last, less) in
-      subst (λ x. WasTaken n new.0.trail (unit_around x r)) same (here (omega (arith, zero_is)))
+      subst (λ x. WasTaken n new.0.trail (unit_around x r)) same (here (parts full).1)
 ]
 
 -- the word of the unit around a block comes before those of the level below

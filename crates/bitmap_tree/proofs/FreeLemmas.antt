@@ -1,14 +1,16 @@
 -- A block is not free where the unit around it is seen set in each level, and no word below it is
 -- empty.
-use Rattle.std.proofs.Common.{inl, inr, ◌≡◌, ◌≢◌, ℕ, zero, suc, ◌+◌, ◌-◌, ◌*◌, ◌/◌, ◌%◌, ◌^◌, ◌<◌, ◌≤◌, min, max, List, get_or, refl, sym, ◌∙◌, ap, ap₂, subst, arith, mul_assoc, add-mul}
+use Rattle.std.proofs.Common.{inl, inr, ◌⊎◌, ◌≡◌, ◌≢◌, ℕ, zero, suc, ◌+◌, ◌-◌, ◌*◌, ◌/◌, ◌%◌, ◌^◌, ◌<◌, ◌≤◌, min, max, List, get_or, refl, sym, ◌∙◌, ap, ap₂, subst, arith, mul_assoc, add-mul}
 use Rattle.std.specs.Int.{bit_at}
-use Rattle.std.proofs.lemmas.Bool.{cases_eq, cases_lt}
+use Rattle.std.proofs.lemmas.Bool.{cases_lt}
 use Rattle.std.proofs.lemmas.Nat.{pow_pos, pow-add, div-add-mod', div_below, row_fits}
 use Rattle.std.proofs.lemmas.Nat.Bits.{bit_at-zero}
 use Rattle.std.proofs.Math.Nat.{mul-div_cancel}
 use Rattle.std.proofs.Math.Pow.{pow_mono}
 use Rattle.cube_shape.specs.declared.region.Region.{Region}
 use Rattle.cube_shape.specs.Region.{block, Covers}
+use Rattle.bitmap_tree.specs.declared.no_block.NoBlock.{NoBlock}
+use Rattle.bitmap_tree.specs.declared.no_block.NoBlock.TheVariants.{Disturbed, Full}
 use Rattle.bitmap_tree.specs.declared.view.Note.{Note}
 use Rattle.bitmap_tree.specs.declared.view.Run.{Run}
 use Rattle.bitmap_tree.specs.Alone.{HasNoBlock, IsFree, IsInUse}
@@ -305,10 +307,14 @@ pub set_alone : (trail : List Note) (words : ℕ → ℕ) (r : Run)
 set_alone trail words r alone bit = let is = alone_left trail words (bit.0 / 64) alone (bit_some (left_by trail (bit.0 / 64)) (bit.0 % 64) bit.2) in (bit.0, bit.1, ap (λ x. bit_at x (bit.0 % 64)) is ∙ bit.2)
 
 -- a refused take of one block, by a call alone
-pub block_in_use : (n : ℕ) (r : Region) (trail : List Note) (contended : ℕ) (words : List ℕ)
+full_or_disturbed : (why : NoBlock) → (why ≡ Full) ⊎ (why ≡ Disturbed)
+full_or_disturbed Full = inl refl
+full_or_disturbed Disturbed = inr refl
+
+pub block_in_use : (n : ℕ) (r : Region) (trail : List Note) (why : NoBlock) (words : List ℕ)
     → IsIn n r.dim r
-    → (contended ≢ 0 → WasDisturbed trail)
-    → (contended ≡ 0
+    → (why ≡ Disturbed → WasDisturbed trail)
+    → (why ≡ Full
     → (s : ℕ)
     → r.dim / 6 ≤ s
     → s ≤ n / 6
@@ -320,7 +326,7 @@ pub block_in_use : (n : ℕ) (r : Region) (trail : List Note) (contended : ℕ) 
     → HasBit (left_by trail (first_word (n / 6 - s) + w)) 0 64)
     → IsAlone (λ w. get_or words w 0) trail
     → IsInUse n words r
-block_in_use n r trail contended words inside disturbed set_in used alone held left free = elim (cases_eq contended 0) [
+block_in_use n r trail why words inside disturbed set_in used alone held left free = elim (full_or_disturbed why) [
   | inl calm ↦ not_free n held left.0 words left.1 r inside free (λ s from low. set_alone trail (λ w. get_or words w 0) (run_of n (unit_around s r)) alone (set_in calm s from low))
       (λ s w low from below. used_alone trail (λ w. get_or words w 0) (first_word (n / 6 - s) + w) alone (used s w low from below))
   | inr lost ↦ disturbed lost (λ w. get_or words w 0) alone
@@ -366,22 +372,22 @@ pub around_number : (n d base : ℕ) → d ≤ n → base < 2 ^ n → base / 2 ^
 around_number n d base fits within = div_below base (2 ^ d) (2 ^ (n - d)) (pow_pos d) (omega (arith, within, split_at n d fits))
 
 -- a refused take of a dimension, by a call alone
-pub no_block : (n k : ℕ) (trail : List Note) (contended : ℕ) (words : List ℕ)
+pub no_block : (n k : ℕ) (trail : List Note) (why : NoBlock) (words : List ℕ)
     → k ≤ n
-    → (contended ≢ 0 → WasDisturbed trail)
-    → (contended ≡ 0 → (s w : ℕ) → k / 6 ≤ s → s ≤ n / 6 → w < 2 ^ (n - 6 * s - 6)
+    → (why ≡ Disturbed → WasDisturbed trail)
+    → (why ≡ Full → (s w : ℕ) → k / 6 ≤ s → s ≤ n / 6 → w < 2 ^ (n - 6 * s - 6)
     → IsFullWord (2 ^ min (n - 6 * s) 6) (max k (6 * s) % 6)
     (left_by trail (first_word (n / 6 - s) + w)))
     → ((s w : ℕ) → s < k / 6 → w < 2 ^ (n - 6 * s - 6)
     → HasBit (left_by trail (first_word (n / 6 - s) + w)) 0 64)
     → IsAlone (λ w. get_or words w 0) trail
     → HasNoBlock n k words
-no_block n k trail contended words fits disturbed full used alone m number = block_in_use n (block k m) trail contended words (block_in n k m fits number) disturbed
+no_block n k trail why words fits disturbed full used alone m number = block_in_use n (block k m) trail why words (block_in n k m fits number) disturbed
     (λ calm s from low. set_around calm s from low (omega (arith, low, fits)))
     (λ s w low from below. used s w low (omega (arith, below, words_under n s (block k m) (block_in n k m fits number) low)))
     alone
   where
-    set_around : contended ≡ 0
+    set_around : why ≡ Full
         → (s : ℕ)
         → k / 6 ≤ s
         → s ≤ n / 6

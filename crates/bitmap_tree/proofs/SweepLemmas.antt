@@ -1,6 +1,8 @@
 -- The words that a sweep has gone over, and those that a scan has.
-use Rattle.std.proofs.Common.{inl, inr, ◌≡◌, ◌≢◌, ℕ, ◌+◌, ◌-◌, ◌*◌, ◌/◌, ◌%◌, ◌^◌, ◌<◌, ◌≤◌, min, max, List, sym, ◌∙◌, ap, subst, arith, add-mul}
+use Rattle.std.proofs.Common.{inl, inr, ◌⊎◌, ◌≡◌, ◌≢◌, ℕ, ◌+◌, ◌-◌, ◌*◌, ◌/◌, ◌%◌, ◌^◌, ◌<◌, ◌≤◌, min, max, List, sym, ◌∙◌, ap, subst, arith, add-mul}
 use Rattle.std.proofs.lemmas.Bool.{cases_eq, cases_lt}
+use Rattle.bitmap_tree.specs.declared.no_block.NoBlock.{NoBlock}
+use Rattle.bitmap_tree.specs.declared.no_block.NoBlock.TheVariants.{Disturbed, Full}
 use Rattle.bitmap_tree.specs.declared.view.Note.{Note}
 use Rattle.bitmap_tree.specs.declared.view.Run.{Run}
 use Rattle.std.proofs.Math.Pow.{pow_mono}
@@ -86,60 +88,63 @@ swept_next n limit level from_of count_of old new low before here below s w less
 -- ---- a scan
 
 -- one word more was left without room, unless it was given up
-pub left_full_next : (size k f word contended more : ℕ) (old new : Known)
+pub left_full_next : (size k f word : ℕ) (why more both : NoBlock) (old new : Known)
     → StepsOn (f + word) (f + word + 1) old new
-    → (contended ≡ 0 → (w : ℕ) → w < word → IsFullWord size k (left_by old.0.trail (f + w)))
-    → (more ≡ 0 → IsFullWord size k (left_by new.0.trail (f + word)))
-    → contended + more ≡ 0
+    → (both ≡ Full → (why ≡ Full) × (more ≡ Full))
+    → (why ≡ Full → (w : ℕ) → w < word → IsFullWord size k (left_by old.0.trail (f + w)))
+    → (more ≡ Full → IsFullWord size k (left_by new.0.trail (f + word)))
+    → both ≡ Full
     → (w : ℕ)
     → w < word + 1
     → IsFullWord size k (left_by new.0.trail (f + w))
-left_full_next size k f word contended more old new steps before here zero_is w less = elim (cases_lt w word) [
-  | inl earlier ↦ subst (IsFullWord size k) (sym (steps.elsewhere (f + w) (inl (omega (arith, earlier))))) (before (omega (arith, zero_is)) w earlier)
-  | inr last ↦ let same : word ≡ w = omega (arith, last, less) in subst (λ x. IsFullWord size k (left_by new.0.trail (f + x))) same (here (omega (arith, zero_is)))
+left_full_next size k f word why more both old new steps parts before here full w less = elim (cases_lt w word) [
+  | inl earlier ↦ subst (IsFullWord size k) (sym (steps.elsewhere (f + w) (inl (omega (arith, earlier))))) (before (parts full).0 w earlier)
+  | inr last ↦ let same : word ≡ w = omega (arith, last, less) in subst (λ x. IsFullWord size k (left_by new.0.trail (f + x))) same (here (parts full).1)
 ]
 
 -- another call made a step: in this part, or before
-pub disturbed_next : (contended more : ℕ) (old new : Known)
+pub disturbed_next : (why more both : NoBlock) (old new : Known)
     → HasPast old new
-    → (contended ≢ 0 → WasDisturbed old.0.trail)
-    → (more ≢ 0 → WasDisturbed new.0.trail)
-    → contended + more ≢ 0
+    → (both ≡ Disturbed → (why ≡ Disturbed) ⊎ (more ≡ Disturbed))
+    → (why ≡ Disturbed → WasDisturbed old.0.trail)
+    → (more ≡ Disturbed → WasDisturbed new.0.trail)
+    → both ≡ Disturbed
     → WasDisturbed new.0.trail
-disturbed_next contended more old new past before here some_lost = elim (cases_eq contended 0) [
-  | inl calm ↦ here (λ none. some_lost (omega (arith, calm, none)))
-  | inr lost ↦ disturbed_then old new past (before lost)
+disturbed_next why more both old new past parts before here disturbed = elim (parts disturbed) [
+  | inl was ↦ disturbed_then old new past (before was)
+  | inr now ↦ here now
 ]
 
 -- one level more was left without room
-pub left_level_next : (n k low level contended more : ℕ) (old new : Known)
+pub left_level_next : (n k low level : ℕ) (why more both : NoBlock) (old new : Known)
     → level ≤ n / 6
     → low ≤ level
     → StepsOn (first_word (n / 6 - level)) (first_word (n / 6 - level) + 2 ^ (n - 6 * level - 6))
     old new
-    → (contended ≡ 0 → (s w : ℕ) → low ≤ s → s < level → w < 2 ^ (n - 6 * s - 6)
+    → (both ≡ Full → (why ≡ Full) × (more ≡ Full))
+    → (why ≡ Full → (s w : ℕ) → low ≤ s → s < level → w < 2 ^ (n - 6 * s - 6)
     → IsFullWord (2 ^ min (n - 6 * s) 6) (max k (6 * s) % 6)
     (left_by old.0.trail (first_word (n / 6 - s) + w)))
-    → (more ≡ 0 → (w : ℕ) → w < 2 ^ (n - 6 * level - 6)
+    → (more ≡ Full → (w : ℕ) → w < 2 ^ (n - 6 * level - 6)
     → IsFullWord (2 ^ min (n - 6 * level) 6) (max k (6 * level) % 6)
     (left_by new.0.trail (first_word (n / 6 - level) + w)))
-    → contended + more ≡ 0
+    → both ≡ Full
     → (s w : ℕ)
     → low ≤ s
     → s < level + 1
     → w < 2 ^ (n - 6 * s - 6)
     → IsFullWord (2 ^ min (n - 6 * s) 6) (max k (6 * s) % 6)
     (left_by new.0.trail (first_word (n / 6 - s) + w))
-left_level_next n k low level contended more old new top least steps before here zero_is s w from less there = elim (cases_lt s level) [
+left_level_next n k low level why more both old new top least steps parts before here full s w from less there = elim (cases_lt s level) [
   | inl earlier ↦
       let order : first_word (n / 6 + 1 - level) ≤ first_word (n / 6 - s) = first_order (n / 6 + 1 - level) (n / 6 - s) (omega (arith, earlier, top)) in
       let end = level_all n level top in
       subst (IsFullWord (2 ^ min (n - 6 * s) 6) (max k (6 * s) % 6)) (sym (steps.elsewhere (first_word (n / 6 - s) + w) (inr (omega (arith, order, end)))))
-      (before (omega (arith, zero_is)) s w from earlier there)
+      (before (parts full).0 s w from earlier there)
   | inr last ↦
       let same : level ≡ s = omega (arith, last, less) in
       subst (λ x. (w : ℕ) → w < 2 ^ (n - 6 * x - 6) → IsFullWord (2 ^ min (n - 6 * x) 6) (max k (6 * x) % 6) (left_by new.0.trail (first_word (n / 6 - x) + w))) same
-      (here (omega (arith, zero_is))) w there
+      (here (parts full).1) w there
 ]
 
 -- the steps of one level, as those of all levels from one up

@@ -8,6 +8,8 @@ use Rattle.std.proofs.lemmas.Bool.{cases_eq, cases_lt}
 use Rattle.std.proofs.lemmas.Nat.{pow_pos, div-add-mod', row_fits, mod-pow-add, le-div}
 use Rattle.std.proofs.Math.Nat.{mod-eq_of_lt, mul-div_cancel}
 use Rattle.std.proofs.lemmas.Nat.Bits.{bit_at-zero, bit_at_and, bit_at-lt, same_from_bits, same_from_bits_below}
+use Rattle.bitmap_tree.specs.declared.no_block.NoBlock.{NoBlock}
+use Rattle.bitmap_tree.specs.declared.no_block.NoBlock.TheVariants.{Full}
 use Rattle.bitmap_tree.specs.declared.view.Note.{Note}
 use Rattle.bitmap_tree.specs.declared.view.Run.{Run}
 use Rattle.bitmap_tree.specs.Rule.{first_word, has, run}
@@ -256,32 +258,34 @@ none_all word size k i end all o begins within =
 -- ---- loops
 
 -- one word more was found full, unless it was given up
-pub full_next : (size k f word contended more : ℕ) (old new : Known)
+pub full_next : (size k f word : ℕ) (why more both : NoBlock) (old new : Known)
     → Keeps old new
-    → (contended ≡ 0 → (w : ℕ) → w < word → IsFull size k (f + w) old.0.trail)
-    → (more ≡ 0 → IsFull size k (f + word) new.0.trail)
-    → contended + more ≡ 0
+    → (both ≡ Full → (why ≡ Full) × (more ≡ Full))
+    → (why ≡ Full → (w : ℕ) → w < word → IsFull size k (f + w) old.0.trail)
+    → (more ≡ Full → IsFull size k (f + word) new.0.trail)
+    → both ≡ Full
     → (w : ℕ)
     → w < word + 1
     → IsFull size k (f + w) new.0.trail
-full_next size k f word contended more old new kept before here zero_is w less = elim (cases_lt w word) [
-  | inl earlier ↦ full_keeps size k (f + w) old new kept (before (omega (arith, zero_is)) w earlier)
-  | inr last ↦ let same : word ≡ w = omega arith in subst (λ x. IsFull size k (f + x) new.0.trail) same (here (omega (arith, zero_is)))
+full_next size k f word why more both old new kept parts before here full w less = elim (cases_lt w word) [
+  | inl earlier ↦ full_keeps size k (f + w) old new kept (before (parts full).0 w earlier)
+  | inr last ↦ let same : word ≡ w = omega arith in subst (λ x. IsFull size k (f + x) new.0.trail) same (here (parts full).1)
 ]
 
 -- one level more was found taken
-pub level_next : (n k low level contended more : ℕ) (old new : Known)
+pub level_next : (n k low level : ℕ) (why more both : NoBlock) (old new : Known)
     → Keeps old new
-    → (contended ≡ 0 → (s : ℕ) → low ≤ s → s < level → WasEachTaken n (max k (6 * s)) old.0.trail)
-    → (more ≡ 0 → WasEachTaken n (max k (6 * level)) new.0.trail)
-    → contended + more ≡ 0
+    → (both ≡ Full → (why ≡ Full) × (more ≡ Full))
+    → (why ≡ Full → (s : ℕ) → low ≤ s → s < level → WasEachTaken n (max k (6 * s)) old.0.trail)
+    → (more ≡ Full → WasEachTaken n (max k (6 * level)) new.0.trail)
+    → both ≡ Full
     → (s : ℕ)
     → low ≤ s
     → s < level + 1
     → WasEachTaken n (max k (6 * s)) new.0.trail
-level_next n k low level contended more old new kept before here zero_is s from less = elim (cases_lt s level) [
-  | inl earlier ↦ taken_keeps n (max k (6 * s)) old new kept (before (omega (arith, zero_is)) s from earlier)
-  | inr last ↦ let same : level ≡ s = omega arith in subst (λ x. WasEachTaken n (max k (6 * x)) new.0.trail) same (here (omega (arith, zero_is)))
+level_next n k low level why more both old new kept parts before here full s from less = elim (cases_lt s level) [
+  | inl earlier ↦ taken_keeps n (max k (6 * s)) old new kept (before (parts full).0 s from earlier)
+  | inr last ↦ let same : level ≡ s = omega arith in subst (λ x. WasEachTaken n (max k (6 * x)) new.0.trail) same (here (parts full).1)
 ]
 
 -- ---- where a search begins

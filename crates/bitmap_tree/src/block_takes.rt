@@ -1,5 +1,6 @@
 //! Takes of one block that is named, and of the blocks on the way down to it.
 ghost use Rattle.std.specs.Prelude.{◌≡◌, ℕ, ◌+◌, ◌*◌, ◌/◌, ◌%◌, ◌^◌, ◌<◌, ◌≤◌, [], ◌∷◌, min, bit_and, ◌-◌, ◌≢◌, true, false, max, IfSome, IfNone, IfOk, IfErr, length};
+ghost use Rattle.bitmap_tree.specs.declared.no_block.NoBlock.TheVariants.{Disturbed, Full};
 ghost use Rattle.bitmap_tree.specs.Rule.{first_word, word_count};
 ghost use Rattle.bitmap_tree.specs.Layout.{HasRun, run_of, unit_around};
 ghost use Rattle.bitmap_tree.specs.InnerLayout.{HasTaken, IsBlank, IsIn, Grows};
@@ -11,20 +12,20 @@ ghost use Rattle.bitmap_tree.specs.Handles.{id_of, dim_of};
 use crate::handles::BitmapTree;
 use crate::layout::{block_at, first_word};
 use crate::mask::mask_of;
+use crate::no_block::NoBlock;
 use crate::search::TRIES;
 use crate::steps::BlockSeat;
 use crate::view::Run;
 use cube_shape::Region;
 
 impl BitmapTree {
-    // Takes one block in its word. Where it does not, the number is 1 if it gave up after `tries`
-    // lost exchanges, and else 0.
+    // Takes one block in its word, which it gives up after `tries` lost exchanges.
     pub(crate) fn take_block(
         &self,
         seat: &mut BlockSeat,
         block: Region,
         tries: u32,
-    ) -> Result<(), u32>
+    ) -> Result<(), NoBlock>
         requires may { MayTake self.now seat.old }
         requires block { IsIn (dim_of self.now) block.dim block }
         requires some { 0 < tries }
@@ -33,13 +34,12 @@ impl BitmapTree {
         ensures taken { IfOk result (λ _.
             HasTaken (dim_of self.now) block.dim seat.new.me block) }
         ensures blank { IfErr result (λ _. IsBlank seat.new.me) }
-        ensures refused { IfErr result (λ contended. contended ≡ 0
+        ensures refused { IfErr result (λ why. why ≡ Full
             → WasTaken (dim_of self.now) seat.new.me.0.trail block) }
-        ensures set { IfErr result (λ contended. contended ≡ 0
+        ensures set { IfErr result (λ why. why ≡ Full
             → IsSetIn (left_by seat.new.me.0.trail) (run_of (dim_of self.now) block)) }
-        ensures disturbed { IfErr result (λ contended. contended ≢ 0
+        ensures disturbed { IfErr result (λ why. why ≡ Disturbed
             → WasDisturbed seat.new.me.0.trail) }
-        ensures few { IfErr result (λ contended. contended ≤ 1) }
         ensures steps { StepsOn
             (first_word (dim_of self.now / 6 - block.dim / 6)
             + block.base / 2 ^ (6 * (block.dim / 6)) / 64)
@@ -55,7 +55,7 @@ impl BitmapTree {
         let mut found = self.load_word(seat, word);
         for _ in 0..tries {
             if found & mask != 0 {
-                return Err(0);
+                return Err(NoBlock::Full);
             }
             let now = self.claim_in(seat, word, found, offset, block.dim % 6);
             if now == found {
@@ -63,7 +63,7 @@ impl BitmapTree {
             }
             found = now;
         }
-        Err(1)
+        Err(NoBlock::Disturbed)
     }
 
     // Opens the word under a unit that the seat has, and keeps one block of it.
@@ -137,21 +137,21 @@ impl BitmapTree {
 
     // Takes one block: in its word, and else from the unit around it in a level above, the lowest
     // first.
-    pub(crate) fn take_path(&self, seat: &mut BlockSeat, block: Region) -> Result<(), u32>
+    pub(crate) fn take_path(&self, seat: &mut BlockSeat, block: Region) -> Result<(), NoBlock>
         requires may { MayTake self.now seat.old }
         requires block { IsIn (dim_of self.now) block.dim block }
         ensures stays { StaysSeat self.now seat.old seat.new }
         ensures taken { IfOk result (λ _.
             HasTaken (dim_of self.now) block.dim seat.new.me block) }
         ensures blank { IfErr result (λ _. IsBlank seat.new.me) }
-        ensures refused { IfErr result (λ contended. contended ≡ 0 → (s : ℕ)
+        ensures refused { IfErr result (λ why. why ≡ Full → (s : ℕ)
             → block.dim / 6 ≤ s → s ≤ dim_of self.now / 6
             → WasTaken (dim_of self.now) seat.new.me.0.trail (unit_around s block)) }
-        ensures set { IfErr result (λ contended. contended ≡ 0 → (s : ℕ)
+        ensures set { IfErr result (λ why. why ≡ Full → (s : ℕ)
             → block.dim / 6 ≤ s → s ≤ dim_of self.now / 6
             → IsSetIn (left_by seat.new.me.0.trail)
             (run_of (dim_of self.now) (unit_around s block))) }
-        ensures disturbed { IfErr result (λ contended. contended ≢ 0
+        ensures disturbed { IfErr result (λ why. why ≡ Disturbed
             → WasDisturbed seat.new.me.0.trail) }
         ensures kept { IfErr result (λ _.
             StepsOn 0 (first_word (dim_of self.now / 6 + 1 - block.dim / 6)) seat.old.me
@@ -159,7 +159,7 @@ impl BitmapTree {
         ensures grows { Grows (4 + 9 * (dim_of self.now / 6 + 1 - block.dim / 6)) seat.old.me
             seat.new.me }
     {
-        let mut contended = 0;
+        let mut why = NoBlock::Full;
         for level in block.dim / 6..self.size.dim / 6 + 1 {
             let unit = block_at(block.base, block.dim.max(6 * level));
             match self.take_block(seat, unit, TRIES) {
@@ -167,10 +167,10 @@ impl BitmapTree {
                     self.descend_to(seat, unit, block, level);
                     return Ok(());
                 }
-                Err(more) => contended += more,
+                Err(more) => why = why.and(more),
             }
         }
-        Err(contended)
+        Err(why)
     }
 
     // Opens the words from a unit down to a block of it, unless the unit is the block.

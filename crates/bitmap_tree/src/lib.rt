@@ -17,6 +17,7 @@ mod handles;
 mod layout;
 mod marks;
 mod mask;
+mod no_block;
 mod opening;
 mod parts;
 mod permits;

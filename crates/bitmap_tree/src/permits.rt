@@ -56,7 +56,7 @@ impl BitmapTree {
         self.begin(&mut seat, self.word_near(processor));
         match self.take_by(&mut seat, k, processor) {
             Ok(region) => Ok(self.hold(seat, region)),
-            Err(contended) => Err((Permit { seat }, contended != 0)),
+            Err(why) => Err((Permit { seat }, why.is_disturbed())),
         }
     }
 

@@ -2,6 +2,7 @@
 ghost use Rattle.std.specs.Prelude.{◌≡◌, ℕ, ◌+◌, ◌*◌, ◌/◌, ◌%◌, ◌^◌, ◌<◌, ◌≤◌, [], ◌∷◌, min, bit_and, ◌-◌, ◌≢◌, true, false, IfSome, IfNone, IfOk, IfErr};
 ghost use Rattle.cube_shape.specs.declared.region.Region.{Region as Block};
 ghost use Rattle.cube_shape.specs.Region.{IsAligned};
+ghost use Rattle.bitmap_tree.specs.declared.no_block.NoBlock.TheVariants.{Disturbed, Full};
 ghost use Rattle.bitmap_tree.specs.Rule.{run, first_word, word_count};
 ghost use Rattle.bitmap_tree.specs.Layout.{HasRun, run_of};
 ghost use Rattle.bitmap_tree.specs.InnerLayout.{HasTaken, IsBlank, IsIn, Grows};
@@ -15,6 +16,7 @@ use crate::handles::BitmapTree;
 use crate::layout::{block_at, first_word, words_in};
 use crate::marks::{has_half, word_in};
 use crate::mask::{WORD_DIM, fit_in, mask_of};
+use crate::no_block::NoBlock;
 use crate::steps::BlockSeat;
 use crate::view::Run;
 use cube_shape::Region;
@@ -144,8 +146,8 @@ impl BitmapTree {
         self.claim(seat, word, found, found | mask_of(offset, k), &said)
     }
 
-    // Takes a block of dimension `k` in a word of its level.
-    // Where it takes none, the number is 1 if it gave up after `tries` lost exchanges, and else 0.
+    // Takes a block of dimension `k` in a word of its level, which it gives up after `tries` lost
+    // exchanges.
     // It and its callers are inlined: each would copy the block through memory, 25 of 76 ns.
     #[inline(always)]
     pub(crate) fn take_in(
@@ -154,7 +156,7 @@ impl BitmapTree {
         number: u32,
         k: u32,
         tries: u32,
-    ) -> Result<Region, u32>
+    ) -> Result<Region, NoBlock>
         requires may { MayTake self.now seat.old }
         requires fits { k ≤ dim_of self.now }
         requires number { number < 2 ^ (dim_of self.now - 6 * (k / 6) - 6) }
@@ -163,15 +165,14 @@ impl BitmapTree {
         ensures stays { StaysSeat self.now seat.old seat.new }
         ensures taken { IfOk result (HasTaken (dim_of self.now) k seat.new.me) }
         ensures blank { IfErr result (λ _. IsBlank seat.new.me) }
-        ensures refused { IfErr result (λ contended. contended ≡ 0
+        ensures refused { IfErr result (λ why. why ≡ Full
             → IsFull (2 ^ min (dim_of self.now - 6 * (k / 6)) 6) (k % 6)
             (first_word (dim_of self.now / 6 - k / 6) + number) seat.new.me.0.trail) }
-        ensures full { IfErr result (λ contended. contended ≡ 0
+        ensures full { IfErr result (λ why. why ≡ Full
             → IsFullWord (2 ^ min (dim_of self.now - 6 * (k / 6)) 6) (k % 6)
             (left_by seat.new.me.0.trail (first_word (dim_of self.now / 6 - k / 6) + number))) }
-        ensures disturbed { IfErr result (λ contended. contended ≢ 0
+        ensures disturbed { IfErr result (λ why. why ≡ Disturbed
             → WasDisturbed seat.new.me.0.trail) }
-        ensures few { IfErr result (λ contended. contended ≤ 1) }
         ensures steps { StepsOn (first_word (dim_of self.now / 6 - k / 6) + number)
             (first_word (dim_of self.now / 6 - k / 6) + number + 1) seat.old.me seat.new.me }
         ensures grows { Grows (1 + TRIES) seat.old.me seat.new.me }
@@ -181,7 +182,7 @@ impl BitmapTree {
         let mut found = self.load_word(seat, word);
         for _ in 0..tries {
             let Some(offset) = fit_in(found, self.word_size(level), k % 6) else {
-                return Err(0);
+                return Err(NoBlock::Full);
             };
             let now = self.claim_in(seat, word, found, offset, k % 6);
             if now == found {
@@ -196,12 +197,11 @@ impl BitmapTree {
             }
             found = now;
         }
-        Err(1)
+        Err(NoBlock::Disturbed)
     }
 
     // Takes a block of dimension `k` in the words of its level that have no mark, from one on. With
-    // fewer than `TRIES` tries it ends at the first word in which it lost them. Where it takes
-    // none, it says whether an exchange was lost.
+    // fewer than `TRIES` tries it ends at the first word that it gives up.
     #[inline(always)]
     fn take_marked(
         &self,
@@ -209,7 +209,7 @@ impl BitmapTree {
         k: u32,
         from: u32,
         tries: u32,
-    ) -> Result<Region, bool>
+    ) -> Result<Region, NoBlock>
         requires may { MayTake self.now seat.old }
         requires fits { k ≤ dim_of self.now }
         requires below { k / 6 < dim_of self.now / 6 }
@@ -224,28 +224,27 @@ impl BitmapTree {
         let level = k / 6;
         let count = words_in(self.size.dim - 6 * level);
         let mut next = from;
-        let mut lost = false;
+        let mut why = NoBlock::Full;
         for _ in 0..count {
             let number = self.next_word(level, k % 6, next);
             if number >= count {
-                return Err(lost);
+                return Err(why);
             }
             match self.take_in(seat, number, k, tries) {
                 Ok(region) => return Ok(region),
-                Err(0) => self.mark(level, number, k % 6),
-                Err(_) if tries < TRIES => return Err(true),
-                Err(_) => {
-                    lost = true;
+                Err(NoBlock::Full) => self.mark(level, number, k % 6),
+                Err(NoBlock::Disturbed) if tries < TRIES => return Err(NoBlock::Disturbed),
+                Err(NoBlock::Disturbed) => {
+                    why = NoBlock::Disturbed;
                     next = number + 1;
                 }
             }
         }
-        Err(lost)
+        Err(why)
     }
 
     // Takes a block of dimension `k` in the open words of its level. It begins with the group of a
-    // processor's word, and then goes over all groups. The top level is one word. Where it takes
-    // none, it says whether an exchange was lost.
+    // processor's word, and then goes over all groups. The top level is one word.
     #[inline(always)]
     fn take_here(
         &self,
@@ -253,7 +252,7 @@ impl BitmapTree {
         k: u32,
         processor: u64,
         tries: u32,
-    ) -> Result<Region, bool>
+    ) -> Result<Region, NoBlock>
         requires may { MayTake self.now seat.old }
         requires fits { k ≤ dim_of self.now }
         requires processor { processor < 2 ^ dim_of self.now }
@@ -265,19 +264,20 @@ impl BitmapTree {
         ensures grows { Grows (18 * 2 ^ (dim_of self.now - 6)) seat.old.me seat.new.me }
     {
         if k / 6 >= self.size.dim / 6 {
-            return self.take_in(seat, 0, k, tries).map_err(|lost| lost != 0);
+            return self.take_in(seat, 0, k, tries);
         }
         let from = (processor >> (6 * (k / 6) + 6)) as u32;
-        let lost = match self.take_marked(seat, k, from, tries) {
+        let why = match self.take_marked(seat, k, from, tries) {
             Ok(region) => return Ok(region),
-            Err(lost) => lost,
+            Err(why) => why,
         };
-        if from < 64 || (lost && tries < TRIES) || self.marks[(k / 6) as usize].is_full(k % 6) {
-            return Err(lost);
+        let ends = why.is_disturbed() && tries < TRIES;
+        if from < 64 || ends || self.marks[(k / 6) as usize].is_full(k % 6) {
+            return Err(why);
         }
         match self.take_marked(seat, k, 0, tries) {
             Ok(region) => Ok(region),
-            Err(more) => Err(lost || more),
+            Err(more) => Err(why.and(more)),
         }
     }
 
@@ -371,8 +371,8 @@ impl BitmapTree {
     {
         match self.take_here(seat, k, processor, 1) {
             Ok(region) => Some(region),
-            Err(true) => self.take_elsewhere(seat, k, processor),
-            Err(false) => self.take_above(seat, k, processor),
+            Err(NoBlock::Disturbed) => self.take_elsewhere(seat, k, processor),
+            Err(NoBlock::Full) => self.take_above(seat, k, processor),
         }
     }
 }

@@ -3,6 +3,7 @@ ghost use Rattle.std.specs.Prelude.{◌≡◌, ℕ, ◌+◌, ◌*◌, ◌/◌, �
 ghost use Rattle.cube_shape.specs.Region.{IsAligned};
 ghost use Rattle.bitmap_tree.specs.Alone.{HasNoBlock, IsInUse};
 ghost use Rattle.bitmap_tree.specs.Bounds.{block_steps, exact_steps, take_steps};
+ghost use Rattle.bitmap_tree.specs.declared.no_block.NoBlock.TheVariants.{Disturbed, Full};
 ghost use Rattle.bitmap_tree.specs.Rule.{first_word};
 ghost use Rattle.bitmap_tree.specs.Layout.{HasRun, run_of};
 ghost use Rattle.bitmap_tree.specs.InnerLayout.{HasTaken, IsBlank, IsIn, Grows};
@@ -11,6 +12,7 @@ ghost use Rattle.bitmap_tree.specs.Trail.{AreRightSteps, IsAlone, WasBlockTaken,
 ghost use Rattle.bitmap_tree.specs.Handles.{id_of, dim_of, held_region, held_trail, refused_trail, permits_of, IsHeldOf, MayClaim};
 
 use crate::handles::{BitmapTree, HeldBlock, Refused};
+use crate::no_block::NoBlock;
 use crate::steps::{BlankSeat, BlockSeat};
 use cube_shape::Region;
 
@@ -22,15 +24,15 @@ pub(crate) fn rest(seat: BlockSeat) -> BlankSeat
     seat.leave()
 }
 
-// Makes a refusal of a seat with an empty run, and of the number of words that it gave up.
-fn refuse(seat: BlockSeat, contended: u32) -> Refused
+// Makes a refusal of a seat with an empty run.
+fn refuse(seat: BlockSeat, why: NoBlock) -> Refused
     requires { IsBlank seat.me }
     ensures trail { refused_trail result ≡ seat.me.0.trail }
-    ensures quiet { result.disturbed ≡ false → contended ≡ 0 }
-    ensures disturbed { result.disturbed ≡ true → contended ≢ 0 }
+    ensures quiet { result.disturbed ≡ false → why ≡ Full }
+    ensures disturbed { result.disturbed ≡ true → why ≡ Disturbed }
 {
     Refused {
-        disturbed: contended != 0,
+        disturbed: why.is_disturbed(),
         seat: rest(seat),
     }
 }
@@ -85,15 +87,15 @@ impl BitmapTree {
     // Takes a block after the marks gave none. It shuts the empty words below the level of the
     // dimension. Then it looks at each word of this level and of those above.
     #[cold]
-    fn search_each_word(&self, seat: &mut BlockSeat, k: u32) -> Result<Region, u32>
+    fn search_each_word(&self, seat: &mut BlockSeat, k: u32) -> Result<Region, NoBlock>
         requires may { MayTake self.now seat.old }
         requires fits { k ≤ dim_of self.now }
         ensures stays { StaysSeat self.now seat.old seat.new }
         ensures taken { IfOk result (HasTaken (dim_of self.now) k seat.new.me) }
         ensures blank { IfErr result (λ _. IsBlank seat.new.me) }
-        ensures refused { IfErr result (λ contended. contended ≡ 0
+        ensures refused { IfErr result (λ why. why ≡ Full
             → WasRefused (dim_of self.now) k seat.new.me.0.trail) }
-        ensures disturbed { IfErr result (λ contended. contended ≢ 0
+        ensures disturbed { IfErr result (λ why. why ≡ Disturbed
             → WasDisturbed seat.new.me.0.trail) }
         ensures alone { IfErr result (λ _. (words : List ℕ)
             → IsAlone (slice_index words) seat.new.me.0.trail
@@ -107,7 +109,7 @@ impl BitmapTree {
         self.sweep(seat, whole, k / 6);
         match self.take_scanned(seat, k) {
             Ok(region) => Ok(region),
-            Err(contended) => Err(contended),
+            Err(why) => Err(why),
         }
     }
 
@@ -118,16 +120,16 @@ impl BitmapTree {
         seat: &mut BlockSeat,
         k: u32,
         processor: u64,
-    ) -> Result<Region, u32>
+    ) -> Result<Region, NoBlock>
         requires may { MayTake self.now seat.old }
         requires fits { k ≤ dim_of self.now }
         requires processor { processor < 2 ^ dim_of self.now }
         ensures stays { StaysSeat self.now seat.old seat.new }
         ensures taken { IfOk result (HasTaken (dim_of self.now) k seat.new.me) }
         ensures blank { IfErr result (λ _. IsBlank seat.new.me) }
-        ensures refused { IfErr result (λ contended. contended ≡ 0
+        ensures refused { IfErr result (λ why. why ≡ Full
             → WasRefused (dim_of self.now) k seat.new.me.0.trail) }
-        ensures disturbed { IfErr result (λ contended. contended ≢ 0
+        ensures disturbed { IfErr result (λ why. why ≡ Disturbed
             → WasDisturbed seat.new.me.0.trail) }
         ensures alone { IfErr result (λ _. (words : List ℕ)
             → IsAlone (slice_index words) seat.new.me.0.trail
@@ -191,22 +193,22 @@ impl BitmapTree {
         let mut seat = self.enter(self.word_near(processor));
         match self.take_by(&mut seat, k, processor) {
             Ok(region) => Ok(self.hold(seat, region)),
-            Err(contended) => Err(refuse(seat, contended)),
+            Err(why) => Err(refuse(seat, why)),
         }
     }
 
     // Takes one block by a seat with an empty run: a second time once the empty words under it are
     // shut.
-    fn take_named(&self, seat: &mut BlockSeat, block: Region) -> Result<(), u32>
+    fn take_named(&self, seat: &mut BlockSeat, block: Region) -> Result<(), NoBlock>
         requires may { MayTake self.now seat.old }
         requires block { IsIn (dim_of self.now) block.dim block }
         ensures stays { StaysSeat self.now seat.old seat.new }
         ensures taken { IfOk result (λ _.
             HasTaken (dim_of self.now) block.dim seat.new.me block) }
         ensures blank { IfErr result (λ _. IsBlank seat.new.me) }
-        ensures refused { IfErr result (λ contended. contended ≡ 0
+        ensures refused { IfErr result (λ why. why ≡ Full
             → WasBlockTaken (dim_of self.now) block seat.new.me.0.trail) }
-        ensures disturbed { IfErr result (λ contended. contended ≢ 0
+        ensures disturbed { IfErr result (λ why. why ≡ Disturbed
             → WasDisturbed seat.new.me.0.trail) }
         ensures alone { IfErr result (λ _. (words : List ℕ)
             → IsAlone (slice_index words) seat.new.me.0.trail
@@ -219,7 +221,7 @@ impl BitmapTree {
         self.sweep(seat, block, block.dim / 6);
         match self.take_path(seat, block) {
             Ok(()) => Ok(()),
-            Err(contended) => Err(contended),
+            Err(why) => Err(why),
         }
     }
 
@@ -253,7 +255,7 @@ impl BitmapTree {
         let mut seat = self.enter(self.word_near(block.base));
         match self.take_named(&mut seat, block) {
             Ok(()) => Ok(self.hold(seat, block)),
-            Err(contended) => Err(refuse(seat, contended)),
+            Err(why) => Err(refuse(seat, why)),
         }
     }
 }

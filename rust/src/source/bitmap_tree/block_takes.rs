@@ -4,20 +4,20 @@
 use crate::source::bitmap_tree::handles::BitmapTree;
 use crate::source::bitmap_tree::layout::{block_at, first_word};
 use crate::source::bitmap_tree::mask::mask_of;
+use crate::source::bitmap_tree::no_block::NoBlock;
 use crate::source::bitmap_tree::search::TRIES;
 use crate::source::bitmap_tree::steps::BlockSeat;
 use crate::source::bitmap_tree::view::Run;
 use crate::source::cube_shape::Region;
 
 impl BitmapTree {
-    // Takes one block in its word. Where it does not, the number is 1 if it gave up after `tries`
-    // lost exchanges, and else 0.
+    // Takes one block in its word, which it gives up after `tries` lost exchanges.
     pub(crate) fn take_block(
         &self,
         seat: &mut BlockSeat,
         block: Region,
         tries: u32,
-    ) -> Result<(), u32> {
+    ) -> Result<(), NoBlock> {
         let level = block.dim / 6;
         let place = block.base >> (6 * level);
         let word = first_word(self.size.dim / 6 - level) + (place / 64) as u32;
@@ -26,7 +26,7 @@ impl BitmapTree {
         let mut found = self.load_word(seat, word);
         for _ in 0..tries {
             if found & mask != 0 {
-                return Err(0);
+                return Err(NoBlock::Full);
             }
             let now = self.claim_in(seat, word, found, offset, block.dim % 6);
             if now == found {
@@ -34,7 +34,7 @@ impl BitmapTree {
             }
             found = now;
         }
-        Err(1)
+        Err(NoBlock::Disturbed)
     }
 
     // Opens the word under a unit that the seat has, and keeps one block of it.
@@ -77,8 +77,8 @@ impl BitmapTree {
 
     // Takes one block: in its word, and else from the unit around it in a level above, the lowest
     // first.
-    pub(crate) fn take_path(&self, seat: &mut BlockSeat, block: Region) -> Result<(), u32> {
-        let mut contended = 0;
+    pub(crate) fn take_path(&self, seat: &mut BlockSeat, block: Region) -> Result<(), NoBlock> {
+        let mut why = NoBlock::Full;
         for level in block.dim / 6..self.size.dim / 6 + 1 {
             let unit = block_at(block.base, block.dim.max(6 * level));
             match self.take_block(seat, unit, TRIES) {
@@ -86,10 +86,10 @@ impl BitmapTree {
                     self.descend_to(seat, unit, block, level);
                     return Ok(());
                 }
-                Err(more) => contended += more,
+                Err(more) => why = why.and(more),
             }
         }
-        Err(contended)
+        Err(why)
     }
 
     // Opens the words from a unit down to a block of it, unless the unit is the block.

@@ -17,6 +17,7 @@ pub(crate) mod handles;
 pub(crate) mod layout;
 pub(crate) mod marks;
 pub(crate) mod mask;
+pub(crate) mod no_block;
 pub(crate) mod opening;
 pub(crate) mod parts;
 pub(crate) mod permits;

@@ -29,8 +29,8 @@ impl BitmapTree {
     /// - ensures disturbed: `IfErr result (λ refused. refused.1 ≡ true → WasDisturbed (permit_trail refused.0))`
     /// - ensures alone: `IfErr result (λ refused. (words : List ℕ) → IsAlone (slice_index words) (permit_trail refused.0) → HasNoBlock (dim_of self.now) k words)`
     /// - ensures steps: `IfOk result (λ held. AreRightSteps (dim_of self.now) (held_trail held))`
-    /// - ensures few: `IfOk result (λ held. length (held_trail held) ≤ take_steps (dim_of self.now))`
-    /// - ensures few_refused: `IfErr result (λ refused. length (permit_trail refused.0) ≤ take_steps (dim_of self.now))`
+    /// - ensures few: `IfOk result (λ held. length (held_trail held) ≤ exact_steps (dim_of self.now))`
+    /// - ensures few_refused: `IfErr result (λ refused. length (permit_trail refused.0) ≤ exact_steps (dim_of self.now))`
     pub fn take_by_permit(
         &self,
         permit: Permit,
@@ -41,7 +41,7 @@ impl BitmapTree {
         self.begin(&mut seat, self.word_near(processor));
         match self.take_by(&mut seat, k, processor) {
             Ok(region) => Ok(self.hold(seat, region)),
-            Err(contended) => Err((Permit { seat }, contended != 0)),
+            Err(why) => Err((Permit { seat }, why.is_disturbed())),
         }
     }
 

@@ -2,6 +2,7 @@
 //! Takes: by the marks, with evidence where they refuse, and of one block that is named.
 
 use crate::source::bitmap_tree::handles::{BitmapTree, HeldBlock, Refused};
+use crate::source::bitmap_tree::no_block::NoBlock;
 use crate::source::bitmap_tree::steps::{BlankSeat, BlockSeat};
 use crate::source::cube_shape::Region;
 
@@ -10,10 +11,10 @@ pub(crate) fn rest(seat: BlockSeat) -> BlankSeat {
     seat.leave()
 }
 
-// Makes a refusal of a seat with an empty run, and of the number of words that it gave up.
-fn refuse(seat: BlockSeat, contended: u32) -> Refused {
+// Makes a refusal of a seat with an empty run.
+fn refuse(seat: BlockSeat, why: NoBlock) -> Refused {
     Refused {
-        disturbed: contended != 0,
+        disturbed: why.is_disturbed(),
         seat: rest(seat),
     }
 }
@@ -21,7 +22,7 @@ fn refuse(seat: BlockSeat, contended: u32) -> Refused {
 impl BitmapTree {
     // Takes a block by the marks, by a seat with an empty run.
     #[inline(always)]
-    fn take_quickly(&self, seat: &mut BlockSeat, k: u32, processor: u64) -> Option<Region> {
+    fn search_by_marks(&self, seat: &mut BlockSeat, k: u32, processor: u64) -> Option<Region> {
         if let Some(region) = self.take_region(seat, k, processor) {
             return Some(region);
         }
@@ -45,11 +46,11 @@ impl BitmapTree {
     /// - ensures dimension: `IfOk result (λ held. (held_region held).dim ≡ k)`
     /// - ensures claimed: `IfOk result (λ held. WasClaimed (run_of (dim_of self.now) (held_region held)) (held_trail held))`
     /// - ensures steps: `IfOk result (λ held. AreRightSteps (dim_of self.now) (held_trail held))`
-    /// - ensures few: `IfOk result (λ held. length (held_trail held) ≤ quick_steps (dim_of self.now))`
-    /// - ensures few_refused: `IfErr result (λ seat. length seat.me.0.trail ≤ quick_steps (dim_of self.now))`
-    pub fn take_quick(&self, k: u32, processor: u64) -> Result<HeldBlock, BlankSeat> {
+    /// - ensures few: `IfOk result (λ held. length (held_trail held) ≤ take_steps (dim_of self.now))`
+    /// - ensures few_refused: `IfErr result (λ seat. length seat.me.0.trail ≤ take_steps (dim_of self.now))`
+    pub fn take(&self, k: u32, processor: u64) -> Result<HeldBlock, BlankSeat> {
         let mut seat = self.enter(self.word_near(processor));
-        match self.take_quickly(&mut seat, k, processor) {
+        match self.search_by_marks(&mut seat, k, processor) {
             Some(region) => Ok(self.hold(seat, region)),
             None => Err(rest(seat)),
         }
@@ -58,7 +59,7 @@ impl BitmapTree {
     // Takes a block after the marks gave none. It shuts the empty words below the level of the
     // dimension. Then it looks at each word of this level and of those above.
     #[cold]
-    fn take_exactly(&self, seat: &mut BlockSeat, k: u32) -> Result<Region, u32> {
+    fn search_each_word(&self, seat: &mut BlockSeat, k: u32) -> Result<Region, NoBlock> {
         let whole = Region {
             base: 0,
             dim: self.size.dim,
@@ -66,7 +67,7 @@ impl BitmapTree {
         self.sweep(seat, whole, k / 6);
         match self.take_scanned(seat, k) {
             Ok(region) => Ok(region),
-            Err(contended) => Err(contended),
+            Err(why) => Err(why),
         }
     }
 
@@ -77,10 +78,10 @@ impl BitmapTree {
         seat: &mut BlockSeat,
         k: u32,
         processor: u64,
-    ) -> Result<Region, u32> {
-        match self.take_quickly(seat, k, processor) {
+    ) -> Result<Region, NoBlock> {
+        match self.search_by_marks(seat, k, processor) {
             Some(region) => Ok(region),
-            None => self.take_exactly(seat, k),
+            None => self.search_each_word(seat, k),
         }
     }
 
@@ -94,8 +95,8 @@ impl BitmapTree {
         }
     }
 
-    /// Takes an aligned block of dimension `k` as `take_quick` does, and looks at each word before
-    /// it refuses.
+    /// Takes an aligned block of dimension `k` as `take` does, and looks at each word before it
+    /// refuses.
     ///
     /// Where no word was given up after lost exchanges, a refusal has evidence. Of each block of
     /// the dimension a step of this call found a bit set, and so of each unit of each level above.
@@ -114,26 +115,26 @@ impl BitmapTree {
     /// - ensures disturbed: `IfErr result (λ refused. refused.disturbed ≡ true → WasDisturbed (refused_trail refused))`
     /// - ensures alone: `IfErr result (λ refused. (words : List ℕ) → IsAlone (slice_index words) (refused_trail refused) → HasNoBlock (dim_of self.now) k words)`
     /// - ensures steps: `IfOk result (λ held. AreRightSteps (dim_of self.now) (held_trail held))`
-    /// - ensures few: `IfOk result (λ held. length (held_trail held) ≤ take_steps (dim_of self.now))`
-    /// - ensures few_refused: `IfErr result (λ refused. length (refused_trail refused) ≤ take_steps (dim_of self.now))`
-    pub fn take(&self, k: u32, processor: u64) -> Result<HeldBlock, Refused> {
+    /// - ensures few: `IfOk result (λ held. length (held_trail held) ≤ exact_steps (dim_of self.now))`
+    /// - ensures few_refused: `IfErr result (λ refused. length (refused_trail refused) ≤ exact_steps (dim_of self.now))`
+    pub fn take_exact(&self, k: u32, processor: u64) -> Result<HeldBlock, Refused> {
         let mut seat = self.enter(self.word_near(processor));
         match self.take_by(&mut seat, k, processor) {
             Ok(region) => Ok(self.hold(seat, region)),
-            Err(contended) => Err(refuse(seat, contended)),
+            Err(why) => Err(refuse(seat, why)),
         }
     }
 
     // Takes one block by a seat with an empty run: a second time once the empty words under it are
     // shut.
-    fn take_named(&self, seat: &mut BlockSeat, block: Region) -> Result<(), u32> {
+    fn take_named(&self, seat: &mut BlockSeat, block: Region) -> Result<(), NoBlock> {
         if let Ok(()) = self.take_path(seat, block) {
             return Ok(());
         }
         self.sweep(seat, block, block.dim / 6);
         match self.take_path(seat, block) {
             Ok(()) => Ok(()),
-            Err(contended) => Err(contended),
+            Err(why) => Err(why),
         }
     }
 
@@ -161,7 +162,7 @@ impl BitmapTree {
         let mut seat = self.enter(self.word_near(block.base));
         match self.take_named(&mut seat, block) {
             Ok(()) => Ok(self.hold(seat, block)),
-            Err(contended) => Err(refuse(seat, contended)),
+            Err(why) => Err(refuse(seat, why)),
         }
     }
 }

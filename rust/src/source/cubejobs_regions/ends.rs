@@ -83,7 +83,7 @@ pub(crate) fn share(alloc: Global, place: Box<State>) -> (Box<State>, Option<Box
 // Frees a machine if no block of it is held, by a take of the whole. Otherwise returns it. Also
 // returns the seat of the call.
 fn end(common: Common, start: u64) -> Result<BlankSeat, (Machine, BlankSeat)> {
-    match common.tree.take(common.tree.dim(), start) {
+    match common.tree.take_exact(common.tree.dim(), start) {
         Ok(held) => Ok(common.tree.release(held).into_seat()),
         Err(refused) => {
             let machine = Machine {

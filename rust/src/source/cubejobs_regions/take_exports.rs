@@ -16,7 +16,7 @@ use crate::source::cube_shape::Region;
 ///
 /// - ensures bad_dimension: `refusal_of_filling region.old ≡ DONE → OnMachine (λ machine. dim_of_machine machine < k) (machine_of thread.old) → result.code ≡ BAD_DIMENSION`
 /// - ensures tried: `refusal_of_filling region.old ≡ DONE → OnMachine (λ machine. k ≤ dim_of_machine machine) (machine_of thread.old) → (result.code ≡ DONE) ⊎ (result.code ≡ NOT_NOW)`
-/// - ensures answered: `IsAnsweredBy quick_steps (machine_of thread.old) region.old region.new result`
+/// - ensures answered: `IsAnsweredBy take_steps (machine_of thread.old) region.old region.new result`
 /// - ensures dimension: `result.code ≡ DONE → result.dim ≡ k`
 /// - ensures machine: `machine_of thread.new ≡ machine_of thread.old`
 /// - ensures unchanged: `result.code ≢ DONE → region.new ≡ region.old`
@@ -42,7 +42,7 @@ pub fn cubejobs_regions_take(
 ///
 /// - ensures bad_dimension: `refusal_of_filling region.old ≡ DONE → OnMachine (λ machine. dim_of_machine machine < k) (machine_of thread.old) → result.code ≡ BAD_DIMENSION`
 /// - ensures tried: `refusal_of_filling region.old ≡ DONE → OnMachine (λ machine. k ≤ dim_of_machine machine) (machine_of thread.old) → (result.code ≡ DONE) ⊎ (result.code ≡ NO_ROOM) ⊎ (result.code ≡ NOT_NOW)`
-/// - ensures answered: `IsAnsweredBy take_steps (machine_of thread.old) region.old region.new result`
+/// - ensures answered: `IsAnsweredBy exact_steps (machine_of thread.old) region.old region.new result`
 /// - ensures dimension: `result.code ≡ DONE → result.dim ≡ k`
 /// - ensures found: `(result.code ≡ NO_ROOM) ⊎ (result.code ≡ NOT_NOW) → OnMachine (λ machine. FoundNoRoom (dim_of_machine machine) k result.contended (trail_of region.new)) (machine_of thread.old)`
 /// - ensures busy: `result.code ≡ NOT_NOW → result.contended ≡ 1`

@@ -43,7 +43,7 @@ pub(crate) fn take(machine: &Machine, region: &mut BlockHandle, k: u32) -> Answe
     if k > common.tree.dim() {
         return refused(BAD_DIMENSION, 0);
     }
-    match common.tree.take_quick(k, machine.start) {
+    match common.tree.take(k, machine.start) {
         Ok(held) => fill(common.number, region, held),
         Err(_) => refused(NOT_NOW, 0),
     }
@@ -55,7 +55,7 @@ pub(crate) fn take_exact(machine: &Machine, region: &mut BlockHandle, k: u32) ->
     if k > common.tree.dim() {
         return refused(BAD_DIMENSION, 0);
     }
-    match common.tree.take(k, machine.start) {
+    match common.tree.take_exact(k, machine.start) {
         Ok(held) => fill(common.number, region, held),
         Err(refusal) => {
             let disturbed = refusal.disturbed;

@@ -1,6 +1,7 @@
 use Rattle.std.proofs.Common.{◌≡◌, ◌/◌, ◌+◌, ◌-◌, ◌∙◌, ◌^◌, ap, subst, arith}
 use Rattle.cube_shape.specs.declared.region.Region.{Region}
 use Rattle.cube_shape.specs.Region.{block}
+use Rattle.bitmap_tree.specs.declared.no_block.NoBlock.TheVariants.{Full}
 use Rattle.bitmap_tree.specs.Rule.{first_word}
 use Rattle.bitmap_tree.specs.Layout.{run_of, unit_around}
 use Rattle.bitmap_tree.specs.InnerTrail.{IsSetIn, left_by}
@@ -32,12 +33,11 @@ loop-level-preserved c =
       stays = stays_then c.loop-level.invariant.stays c.take_block.ensures.stays;
       blank = c.in-Err.ensures.blank;
       from = omega (arith, from);
-      few = omega (arith, c.loop-level.invariant.few, c.in-Err.ensures.few);
-      seen = seen_next (dim_of c.args.self.now) c.loop-level.level c.args.block c.loop-level.contended c.in-Err.more c.loop-level.seat.me c.take_block.new.seat.me _ steps c.loop-level.invariant.seen
-          (subst (λ (r : Region). c.in-Err.more ≡ 0 → WasTaken (dim_of c.args.self.now) c.take_block.new.seat.me.0.trail r) unit_is c.in-Err.ensures.refused);
-      set = set_next (dim_of c.args.self.now) c.loop-level.level _ c.args.block c.loop-level.contended c.in-Err.more c.loop-level.seat.me c.take_block.new.seat.me (omega (arith, test)) there steps c.loop-level.invariant.set
-          (subst (λ (r : Region). c.in-Err.more ≡ 0 → IsSetIn (left_by c.take_block.new.seat.me.0.trail) (run_of (dim_of c.args.self.now) r)) unit_is c.in-Err.ensures.set);
-      disturbed = disturbed_next c.loop-level.contended c.in-Err.more c.loop-level.seat.me c.take_block.new.seat.me steps.past c.loop-level.invariant.disturbed c.in-Err.ensures.disturbed;
+      seen = seen_next (dim_of c.args.self.now) c.loop-level.level c.args.block c.loop-level.why c.in-Err.more c.and-why.result c.loop-level.seat.me c.take_block.new.seat.me _ steps c.and-why.ensures.full c.loop-level.invariant.seen
+          (subst (λ (r : Region). c.in-Err.more ≡ Full → WasTaken (dim_of c.args.self.now) c.take_block.new.seat.me.0.trail r) unit_is c.in-Err.ensures.refused);
+      set = set_next (dim_of c.args.self.now) c.loop-level.level _ c.args.block c.loop-level.why c.in-Err.more c.and-why.result c.loop-level.seat.me c.take_block.new.seat.me (omega (arith, test)) there steps c.and-why.ensures.full c.loop-level.invariant.set
+          (subst (λ (r : Region). c.in-Err.more ≡ Full → IsSetIn (left_by c.take_block.new.seat.me.0.trail) (run_of (dim_of c.args.self.now) r)) unit_is c.in-Err.ensures.set);
+      disturbed = disturbed_next c.loop-level.why c.in-Err.more c.and-why.result c.loop-level.seat.me c.take_block.new.seat.me steps.past c.and-why.ensures.disturbed c.loop-level.invariant.disturbed c.in-Err.ensures.disturbed;
       kept = steps_then 0 (first_word (dim_of c.args.self.now / 6 + 1 - c.args.block.dim / 6)) c.args.seat.now.me c.loop-level.seat.me c.take_block.new.seat.me c.loop-level.invariant.kept
           (path_steps (dim_of c.args.self.now) (c.args.block.dim / 6) c.loop-level.level _ c.loop-level.seat.me c.take_block.new.seat.me from there steps);
       grows = omega (arith, c.loop-level.invariant.grows, c.take_block.ensures.grows, from);

@@ -1,4 +1,5 @@
-use Rattle.std.proofs.Common.{◌≡◌, ◌≢◌, ℕ, ◌≤◌, ◌<◌, ◌+◌, ◌-◌, ◌*◌, ◌/◌}
+use Rattle.std.proofs.Common.{◌≡◌, ℕ, ◌≤◌, ◌<◌, ◌+◌, ◌-◌, ◌*◌, ◌/◌}
+use Rattle.bitmap_tree.specs.declared.no_block.NoBlock.TheVariants.{Disturbed, Full}
 use Rattle.bitmap_tree.specs.Rule.{first_word}
 use Rattle.bitmap_tree.specs.InnerLayout.{IsBlank, Grows}
 use Rattle.bitmap_tree.specs.Layout.{run_of, unit_around}
@@ -13,18 +14,17 @@ invariant-loop-level l = record {
   stays : StaysSeat l.self l.fn.seat l.seat;
   blank : IsBlank l.seat.me;
   from : l.block.dim / 6 ≤ l.level;
-  few : l.contended ≤ l.level;
-  seen : l.contended ≡ 0
+  seen : l.why ≡ Full
       → (s : ℕ)
       → l.block.dim / 6 ≤ s
       → s < l.level
       → WasTaken (dim_of l.self) l.seat.me.0.trail (unit_around s l.block);
-  set : l.contended ≡ 0
+  set : l.why ≡ Full
       → (s : ℕ)
       → l.block.dim / 6 ≤ s
       → s < l.level
       → IsSetIn (left_by l.seat.me.0.trail) (run_of (dim_of l.self) (unit_around s l.block));
-  disturbed : l.contended ≢ 0 → WasDisturbed l.seat.me.0.trail;
+  disturbed : l.why ≡ Disturbed → WasDisturbed l.seat.me.0.trail;
   kept : StepsOn 0 (first_word (dim_of l.self / 6 + 1 - l.block.dim / 6)) l.fn.seat.me l.seat.me;
   grows : Grows (9 * (l.level - l.block.dim / 6)) l.fn.seat.me l.seat.me;
 }

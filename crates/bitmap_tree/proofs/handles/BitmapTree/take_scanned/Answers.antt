@@ -1,3 +1,4 @@
+use Rattle.bitmap_tree.specs.declared.no_block.NoBlock.TheVariants.{Full}
 use Rattle.bitmap_tree.proofs.LayoutLemmas.{grows_none}
 use Rattle.std.proofs.Common.{refl, ◌≡◌, ◌*◌, ◌/◌, ◌%◌, ◌^◌, ◌<◌, ℕ, min, max, ◌∙◌, ap, subst, arith, ◌-◌, ◌+◌}
 use Rattle.bitmap_tree.specs.Rule.{first_word}
@@ -20,18 +21,17 @@ loop-level-preserved c =
     let at : c.max.result / 6 ≡ c.loop-level.level = ap (λ d. d / 6) same ∙ level in
     let steps : StepsOn (first_word (dim_of c.args.self.now / 6 - c.loop-level.level)) (first_word (dim_of c.args.self.now / 6 - c.loop-level.level) + 2 ^ (dim_of c.args.self.now - 6 * c.loop-level.level - 6)) c.loop-level.seat.me c.take_words.new.seat.me =
     subst (λ l. StepsOn (first_word (dim_of c.args.self.now / 6 - l)) (first_word (dim_of c.args.self.now / 6 - l) + 2 ^ (dim_of c.args.self.now - 6 * l - 6)) c.loop-level.seat.me c.take_words.new.seat.me) at c.take_words.ensures.steps in
-    let full : c.in-Err.more ≡ 0 → (w : ℕ) → w < 2 ^ (dim_of c.args.self.now - 6 * c.loop-level.level - 6) → IsFullWord (2 ^ min (dim_of c.args.self.now - 6 * c.loop-level.level) 6) (max c.args.k (6 * c.loop-level.level) % 6) (left_by c.take_words.new.seat.me.0.trail (first_word (dim_of c.args.self.now / 6 - c.loop-level.level) + w)) =
-    subst (λ d. c.in-Err.more ≡ 0 → (w : ℕ) → w < 2 ^ (dim_of c.args.self.now - 6 * c.loop-level.level - 6) → IsFullWord (2 ^ min (dim_of c.args.self.now - 6 * c.loop-level.level) 6) (d % 6) (left_by c.take_words.new.seat.me.0.trail (first_word (dim_of c.args.self.now / 6 - c.loop-level.level) + w))) same
-    (subst (λ l. c.in-Err.more ≡ 0 → (w : ℕ) → w < 2 ^ (dim_of c.args.self.now - 6 * l - 6) → IsFullWord (2 ^ min (dim_of c.args.self.now - 6 * l) 6) (c.max.result % 6) (left_by c.take_words.new.seat.me.0.trail (first_word (dim_of c.args.self.now / 6 - l) + w))) at c.in-Err.ensures.full) in
+    let full : c.in-Err.more ≡ Full → (w : ℕ) → w < 2 ^ (dim_of c.args.self.now - 6 * c.loop-level.level - 6) → IsFullWord (2 ^ min (dim_of c.args.self.now - 6 * c.loop-level.level) 6) (max c.args.k (6 * c.loop-level.level) % 6) (left_by c.take_words.new.seat.me.0.trail (first_word (dim_of c.args.self.now / 6 - c.loop-level.level) + w)) =
+    subst (λ d. c.in-Err.more ≡ Full → (w : ℕ) → w < 2 ^ (dim_of c.args.self.now - 6 * c.loop-level.level - 6) → IsFullWord (2 ^ min (dim_of c.args.self.now - 6 * c.loop-level.level) 6) (d % 6) (left_by c.take_words.new.seat.me.0.trail (first_word (dim_of c.args.self.now / 6 - c.loop-level.level) + w))) same
+    (subst (λ l. c.in-Err.more ≡ Full → (w : ℕ) → w < 2 ^ (dim_of c.args.self.now - 6 * l - 6) → IsFullWord (2 ^ min (dim_of c.args.self.now - 6 * l) 6) (c.max.result % 6) (left_by c.take_words.new.seat.me.0.trail (first_word (dim_of c.args.self.now / 6 - l) + w))) at c.in-Err.ensures.full) in
     record {
       stays = stays_then c.loop-level.invariant.stays c.take_words.ensures.stays;
       blank = c.in-Err.ensures.blank;
-      few = omega (arith, c.loop-level.invariant.few, c.in-Err.ensures.few);
       from = omega (arith, c.loop-level.invariant.from);
-      seen = level_next (dim_of c.args.self.now) c.args.k (c.args.k / 6) c.loop-level.level c.loop-level.contended c.in-Err.more c.loop-level.seat.me c.take_words.new.seat.me c.take_words.ensures.steps.keeps c.loop-level.invariant.seen
-          (subst (λ d. c.in-Err.more ≡ 0 → WasEachTaken (dim_of c.args.self.now) d c.take_words.new.seat.me.0.trail) same c.in-Err.ensures.refused);
-      full = left_level_next (dim_of c.args.self.now) c.args.k (c.args.k / 6) c.loop-level.level c.loop-level.contended c.in-Err.more c.loop-level.seat.me c.take_words.new.seat.me (omega (arith, test)) from steps c.loop-level.invariant.full full;
-      disturbed = disturbed_next c.loop-level.contended c.in-Err.more c.loop-level.seat.me c.take_words.new.seat.me steps.past c.loop-level.invariant.disturbed c.in-Err.ensures.disturbed;
+      seen = level_next (dim_of c.args.self.now) c.args.k (c.args.k / 6) c.loop-level.level c.loop-level.why c.in-Err.more c.and-why.result c.loop-level.seat.me c.take_words.new.seat.me c.take_words.ensures.steps.keeps c.and-why.ensures.full c.loop-level.invariant.seen
+          (subst (λ d. c.in-Err.more ≡ Full → WasEachTaken (dim_of c.args.self.now) d c.take_words.new.seat.me.0.trail) same c.in-Err.ensures.refused);
+      full = left_level_next (dim_of c.args.self.now) c.args.k (c.args.k / 6) c.loop-level.level c.loop-level.why c.in-Err.more c.and-why.result c.loop-level.seat.me c.take_words.new.seat.me (omega (arith, test)) from steps c.and-why.ensures.full c.loop-level.invariant.full full;
+      disturbed = disturbed_next c.loop-level.why c.in-Err.more c.and-why.result c.loop-level.seat.me c.take_words.new.seat.me steps.past c.and-why.ensures.disturbed c.loop-level.invariant.disturbed c.in-Err.ensures.disturbed;
       kept = steps_then 0 (first_word (dim_of c.args.self.now / 6 + 1 - c.args.k / 6)) c.args.seat.now.me c.loop-level.seat.me c.take_words.new.seat.me c.loop-level.invariant.kept
           (level_steps (dim_of c.args.self.now) (c.args.k / 6) c.loop-level.level c.loop-level.seat.me c.take_words.new.seat.me (omega (arith, test)) from steps);
       grows = scan_next (dim_of c.args.self.now) (c.loop-level.level - c.args.k / 6) (c.loop-level.level + 1 - c.args.k / 6) _ c.args.seat.now.me c.loop-level.seat.me c.take_words.new.seat.me (omega (arith, c.loop-level.invariant.from)) c.loop-level.invariant.grows c.take_words.ensures.grows;

@@ -14,10 +14,9 @@ loop-number-preserved c =
     record {
       stays = stays_then c.loop-number.invariant.stays c.take_in.ensures.stays;
       blank = c.in-Err.ensures.blank;
-      few = omega (arith, c.loop-number.invariant.few, c.in-Err.ensures.few);
-      seen = full_next (2 ^ min (dim_of c.args.self.now - 6 * (c.args.k / 6)) 6) (c.args.k % 6) (first_word (dim_of c.args.self.now / 6 - c.args.k / 6)) c.loop-number.number c.loop-number.contended c.in-Err.more c.loop-number.seat.me c.take_in.new.seat.me c.take_in.ensures.steps.keeps c.loop-number.invariant.seen c.in-Err.ensures.refused;
-      full = left_full_next (2 ^ min (dim_of c.args.self.now - 6 * (c.args.k / 6)) 6) (c.args.k % 6) (first_word (dim_of c.args.self.now / 6 - c.args.k / 6)) c.loop-number.number c.loop-number.contended c.in-Err.more c.loop-number.seat.me c.take_in.new.seat.me c.take_in.ensures.steps c.loop-number.invariant.full c.in-Err.ensures.full;
-      disturbed = disturbed_next c.loop-number.contended c.in-Err.more c.loop-number.seat.me c.take_in.new.seat.me c.take_in.ensures.steps.past c.loop-number.invariant.disturbed c.in-Err.ensures.disturbed;
+      seen = full_next (2 ^ min (dim_of c.args.self.now - 6 * (c.args.k / 6)) 6) (c.args.k % 6) (first_word (dim_of c.args.self.now / 6 - c.args.k / 6)) c.loop-number.number c.loop-number.why c.in-Err.more c.and-why.result c.loop-number.seat.me c.take_in.new.seat.me c.take_in.ensures.steps.keeps c.and-why.ensures.full c.loop-number.invariant.seen c.in-Err.ensures.refused;
+      full = left_full_next (2 ^ min (dim_of c.args.self.now - 6 * (c.args.k / 6)) 6) (c.args.k % 6) (first_word (dim_of c.args.self.now / 6 - c.args.k / 6)) c.loop-number.number c.loop-number.why c.in-Err.more c.and-why.result c.loop-number.seat.me c.take_in.new.seat.me c.take_in.ensures.steps c.and-why.ensures.full c.loop-number.invariant.full c.in-Err.ensures.full;
+      disturbed = disturbed_next c.loop-number.why c.in-Err.more c.and-why.result c.loop-number.seat.me c.take_in.new.seat.me c.take_in.ensures.steps.past c.and-why.ensures.disturbed c.loop-number.invariant.disturbed c.in-Err.ensures.disturbed;
       steps = steps_then (first_word (dim_of c.args.self.now / 6 - c.args.k / 6)) (first_word (dim_of c.args.self.now / 6 - c.args.k / 6) + 2 ^ (dim_of c.args.self.now - 6 * (c.args.k / 6) - 6)) c.args.seat.now.me c.loop-number.seat.me c.take_in.new.seat.me c.loop-number.invariant.steps
           (steps_wider (first_word (dim_of c.args.self.now / 6 - c.args.k / 6) + c.loop-number.number) (first_word (dim_of c.args.self.now / 6 - c.args.k / 6) + c.loop-number.number + 1) _ _ c.loop-number.seat.me c.take_in.new.seat.me (omega arith) (omega (arith, c.words_in-number-end.ensures.value, test)) c.take_in.ensures.steps);
       grows = omega (arith, c.loop-number.invariant.grows, c.take_in.ensures.grows);
