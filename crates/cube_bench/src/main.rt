@@ -24,9 +24,9 @@
 //! tree of dimension N. First it fills the tree as the scenario says (bench/peers/regions.c), and
 //! prints `ready`. Each line of standard input is a number of turns, which each thread makes. Then
 //! it prints how many takes were refused. With `exact` a turn whose block is not kept calls
-//! `take_exact` instead of `take`. With `times` each turn whose block is not kept is timed: three more
-//! lines are median, 99 % and 99.9 % in nanoseconds. At the end of the input it releases all, and
-//! prints how many words were free. It fails if the machine is not whole then.
+//! `take_exact` instead of `take`. With `times` each turn whose block is not kept is timed: three
+//! more lines are median, 99 % and 99.9 % in nanoseconds. At the end of the input it releases all,
+//! and prints how many words were free. It fails if the machine is not whole then.
 //!
 //! `dispatch SHOP ITEMS LANES DISPATCHERS CAPACITY JOBS` runs a dispatcher on threads. SHOP is
 //! `free`, the lock-free queue and allocator, or `locked`, a queue and an allocator under a lock
