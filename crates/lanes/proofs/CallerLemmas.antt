@@ -1,12 +1,9 @@
 -- The closer is a thread that calls workers.
-use Rattle.std.proofs.Common.{◌≡◌, ℕ, suc, ◌-◌, ◌+◌, [], ◌∷◌, ◌++◌, map, sym, ap, ◌∙◌, subst, arith}
+use Rattle.std.proofs.Common.{◌≡◌, ℕ, suc, ◌-◌, ◌+◌, [], ◌∷◌, ap, ◌∙◌, arith}
 use Rattle.ghost_history.specs.Lists.{numbered_from}
-use Rattle.wake_pool.specs.declared.phase.WakePhase.{WakePhase as Phase}
 use Rattle.wake_pool.specs.declared.phase.WakePhase.TheVariants.{Idle}
-use Rattle.wake_calls.specs.Pool.{in_phase}
-use Rattle.wake_calls.specs.Thread.{moved, IsIn, number_of}
 use Rattle.lanes.specs.declared.sizes.Plan.{Plan}
-use Rattle.lanes.specs.Inner.Pool.{BothSat, known_sat, threads_in, goes, producer_of, thread_at, AreIdle, IsStill}
+use Rattle.lanes.specs.Inner.Pool.{BothSat, producer_of, thread_at, AreIdle}
 use Rattle.lanes.specs.Inner.Caller.{IsCaller}
 
 -- when all are dealt out, the closer's thread is left

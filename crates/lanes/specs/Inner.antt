@@ -8,3 +8,4 @@ pub mod Pool
 pub mod PoolLaw
 pub mod Find
 pub mod Caller
+pub mod Sleeper

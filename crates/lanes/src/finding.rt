@@ -9,6 +9,7 @@ ghost use Rattle.lanes.specs.Deeds.{after_gift, and_given, given_in, has_call};
 ghost use Rattle.lanes.specs.Lanes.{look_steps};
 ghost use Rattle.lanes.specs.Phases.{phase_of, IsAwake, IsFree};
 ghost use Rattle.lanes.specs.Sleep.{FindsNone, Finds, SawOneOpen, StopsAt, IsNone, find_steps};
+ghost use Rattle.lanes.specs.Inner.Sleeper.{MaySleepIn};
 
 use crate::finder::{At, Finder, Finding, Found};
 use crate::lanes::Lanes;
@@ -129,9 +130,7 @@ impl Lanes {
 
     // Ends the search of a worker that has work. If more is left, it wakes another.
     fn end_search(&self, sleeper: &mut Sleeper, tries: u32) -> (At, Option<u32>)
-        requires id { sleeper.old.id ≡ self.now }
-        requires may_sleep { sleeper.old.known.number < self.now.plan.sleepers }
-        requires phase { sleeper.old.phase ≡ HasFound }
+        requires phase { MaySleepIn self.now HasFound sleeper.old }
         ensures id { sleeper.new.id ≡ self.now }
         ensures deeds { sleeper.new.deeds ≡ after_gift result.1 sleeper.old.deeds }
         ensures phase { sleeper.new.phase ≡ phase_of self.now.plan result.0 }
@@ -159,10 +158,8 @@ impl Lanes {
 
     // The round of an idle worker: it takes a job, or lies down.
     fn round_idle(&self, sleeper: &mut Sleeper, from: u32) -> Round
-        requires id { sleeper.old.id ≡ self.now }
-        requires may_sleep { sleeper.old.known.number < self.now.plan.sleepers }
         requires from { from < self.now.plan.sizes.lanes }
-        requires phase { sleeper.old.phase ≡ Idle }
+        requires phase { MaySleepIn self.now Idle sleeper.old }
         ensures id { sleeper.new.id ≡ self.now }
         ensures deeds { sleeper.new.deeds ≡ sleeper.old.deeds }
         ensures phase { sleeper.new.phase ≡ phase_of self.now.plan result.at }
@@ -200,10 +197,8 @@ impl Lanes {
     // The round of the searcher: it takes a job and wakes another for more, or lies down. Once all
     // lanes have ended, it ends its search.
     fn round_searching(&self, sleeper: &mut Sleeper, from: u32, tries: u32) -> Round
-        requires id { sleeper.old.id ≡ self.now }
-        requires may_sleep { sleeper.old.known.number < self.now.plan.sleepers }
         requires from { from < self.now.plan.sizes.lanes }
-        requires phase { sleeper.old.phase ≡ Searching }
+        requires phase { MaySleepIn self.now Searching sleeper.old }
         ensures id { sleeper.new.id ≡ self.now }
         ensures given { given_in sleeper.new.deeds
             ≡ and_given result.woken (given_in sleeper.old.deeds) }
@@ -250,9 +245,7 @@ impl Lanes {
 
     // The round of a worker that has set its bit and seen a job: it takes its bit back.
     fn round_back(&self, sleeper: &mut Sleeper, tries: u32) -> At
-        requires id { sleeper.old.id ≡ self.now }
-        requires may_sleep { sleeper.old.known.number < self.now.plan.sleepers }
-        requires phase { sleeper.old.phase ≡ Returning }
+        requires phase { MaySleepIn self.now Returning sleeper.old }
         ensures id { sleeper.new.id ≡ self.now }
         ensures deeds { sleeper.new.deeds ≡ sleeper.old.deeds }
         ensures phase { sleeper.new.phase ≡ phase_of self.now.plan result }
@@ -268,9 +261,7 @@ impl Lanes {
 
     // The round of a worker that has set its bit: it takes its call, or searches, or parks.
     fn round_reading(&self, sleeper: &mut Sleeper) -> At
-        requires id { sleeper.old.id ≡ self.now }
-        requires may_sleep { sleeper.old.known.number < self.now.plan.sleepers }
-        requires phase { sleeper.old.phase ≡ Reading }
+        requires phase { MaySleepIn self.now Reading sleeper.old }
         ensures id { sleeper.new.id ≡ self.now }
         ensures given { given_in sleeper.new.deeds ≡ given_in sleeper.old.deeds }
         ensures calls { has_call sleeper.old.deeds ≡ false
@@ -291,9 +282,7 @@ impl Lanes {
 
     // Takes the token of a worker that parks. Returns where it is.
     fn round_parked(&self, sleeper: &mut Sleeper) -> At
-        requires id { sleeper.old.id ≡ self.now }
-        requires may_sleep { sleeper.old.known.number < self.now.plan.sleepers }
-        requires phase { sleeper.old.phase ≡ Parked }
+        requires phase { MaySleepIn self.now Parked sleeper.old }
         ensures id { sleeper.new.id ≡ self.now }
         ensures deeds { sleeper.new.deeds ≡ sleeper.old.deeds }
         ensures phase { sleeper.new.phase ≡ phase_of self.now.plan result }
@@ -307,10 +296,8 @@ impl Lanes {
     }
     // One round of `find`, by where the worker is.
     fn find_round(&self, sleeper: &mut Sleeper, at: At, from: u32, tries: u32) -> Round
-        requires id { sleeper.old.id ≡ self.now }
-        requires may_sleep { sleeper.old.known.number < self.now.plan.sleepers }
         requires from { from < self.now.plan.sizes.lanes }
-        requires phase { sleeper.old.phase ≡ phase_of self.now.plan at }
+        requires phase { MaySleepIn self.now (phase_of self.now.plan at) sleeper.old }
         ensures id { sleeper.new.id ≡ self.now }
         ensures given { given_in sleeper.new.deeds
             ≡ and_given result.woken (given_in sleeper.old.deeds) }
@@ -341,10 +328,8 @@ impl Lanes {
 
     // The rounds of `find`, from this place on.
     fn find_from(&self, sleeper: &mut Sleeper, at: At, from: u32, tries: u32) -> Round
-        requires id { sleeper.old.id ≡ self.now }
-        requires may_sleep { sleeper.old.known.number < self.now.plan.sleepers }
         requires from { from < self.now.plan.sizes.lanes }
-        requires phase { sleeper.old.phase ≡ phase_of self.now.plan at }
+        requires phase { MaySleepIn self.now (phase_of self.now.plan at) sleeper.old }
         ensures id { sleeper.new.id ≡ self.now }
         ensures given { given_in sleeper.new.deeds
             ≡ and_given result.woken (given_in sleeper.old.deeds) }

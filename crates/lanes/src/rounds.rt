@@ -3,6 +3,7 @@ ghost use Rattle.std.specs.Prelude.{◌≡◌, ◌+◌, ◌<◌};
 ghost use Rattle.lanes.specs.Record.{take_of};
 ghost use Rattle.lanes.specs.Lanes.{Looks, TakesAny, TakeAnyKeeps, ChangesOnly};
 ghost use Rattle.lanes.specs.Inner.Round.{next_lane};
+ghost use Rattle.lanes.specs.Inner.Sleeper.{StaysInLane};
 
 use crate::handles::Worker;
 use crate::lanes::Lanes;
@@ -60,10 +61,8 @@ impl Lanes {
     pub(crate) fn look_as(&self, sleeper: &mut Sleeper, lane: u32) -> Looked
         requires id { sleeper.old.id ≡ self.now }
         requires lane { lane < self.now.plan.sizes.lanes }
-        ensures id { sleeper.new.id ≡ self.now }
-        ensures deeds { sleeper.new.deeds ≡ sleeper.old.deeds }
+        ensures stays { StaysInLane self.now lane sleeper.old sleeper.new }
         ensures same { sleeper.new.phase ≡ sleeper.old.phase }
-        ensures only { ChangesOnly lane sleeper.old.known sleeper.new.known }
         ensures looks { Looks (take_of lane sleeper.old.known) result
             (take_of lane sleeper.new.known) }
     {

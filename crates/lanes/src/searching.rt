@@ -7,6 +7,7 @@ ghost use Rattle.lanes.specs.Record.{take_of, after_head, after_empty, after_tai
 ghost use Rattle.lanes.specs.Lanes.{Takes, TakesAny, TakeAnyKeeps, ChangesOnly, call_steps};
 ghost use Rattle.lanes.specs.Inner.Round.{Passing};
 ghost use Rattle.lanes.specs.Phases.{ready_phase, done_phase, taken_phase, round_phase};
+ghost use Rattle.lanes.specs.Inner.Sleeper.{HasHead, StaysInLane};
 
 use crate::lanes::Lanes;
 use crate::record::LaneJob;
@@ -21,10 +22,8 @@ impl Lanes {
     pub(crate) fn head_of(&self, sleeper: &mut Sleeper, lane: u32) -> u64
         requires id { sleeper.old.id ≡ self.now }
         requires lane { lane < self.now.plan.sizes.lanes }
-        ensures id { sleeper.new.id ≡ self.now }
-        ensures deeds { sleeper.new.deeds ≡ sleeper.old.deeds }
+        ensures stays { StaysInLane self.now lane sleeper.old sleeper.new }
         ensures same { sleeper.new.phase ≡ sleeper.old.phase }
-        ensures only { ChangesOnly lane sleeper.old.known sleeper.new.known }
         ensures take { take_of lane sleeper.new.known
             ≡ after_head result (take_of lane sleeper.old.known) }
     {
@@ -35,13 +34,9 @@ impl Lanes {
     // Returns how many jobs the worker knows to be accepted, if that is more than `head`. It goes
     // by what it saw earlier, or reads the count. The error is whether the lane is closed.
     pub(crate) fn count_of(&self, sleeper: &mut Sleeper, lane: u32, head: u64) -> Result<u64, bool>
-        requires id { sleeper.old.id ≡ self.now }
-        requires lane { lane < self.now.plan.sizes.lanes }
-        requires head { head ≡ (take_of lane sleeper.old.known).head }
-        ensures id { sleeper.new.id ≡ self.now }
-        ensures deeds { sleeper.new.deeds ≡ sleeper.old.deeds }
+        requires head { HasHead self.now lane head sleeper.old }
+        ensures stays { StaysInLane self.now lane sleeper.old sleeper.new }
         ensures same { sleeper.new.phase ≡ sleeper.old.phase }
-        ensures only { ChangesOnly lane sleeper.old.known sleeper.new.known }
         ensures some { IfOk result (λ count. (head < count)
             × (count ≡ (take_of lane sleeper.new.known).tail)
             × ((take_of lane sleeper.new.known ≡ take_of lane sleeper.old.known)
@@ -60,13 +55,9 @@ impl Lanes {
     // Returns how many jobs were accepted, if that is more than `head`; or whether the lane is
     // closed.
     fn tail_of(&self, sleeper: &mut Sleeper, lane: u32, head: u64) -> Result<u64, bool>
-        requires id { sleeper.old.id ≡ self.now }
-        requires lane { lane < self.now.plan.sizes.lanes }
-        requires head { head ≡ (take_of lane sleeper.old.known).head }
-        ensures id { sleeper.new.id ≡ self.now }
-        ensures deeds { sleeper.new.deeds ≡ sleeper.old.deeds }
+        requires head { HasHead self.now lane head sleeper.old }
+        ensures stays { StaysInLane self.now lane sleeper.old sleeper.new }
         ensures same { sleeper.new.phase ≡ sleeper.old.phase }
-        ensures only { ChangesOnly lane sleeper.old.known sleeper.new.known }
         ensures some { IfOk result (λ count. (head < count)
             × (take_of lane sleeper.new.known
             ≡ after_tail count (take_of lane sleeper.old.known))) }
@@ -85,16 +76,12 @@ impl Lanes {
 
     // Returns what is in the cell for the payload of the job with the number `head`.
     pub(crate) fn payload_of(&self, sleeper: &mut Sleeper, lane: u32, head: u64, cell: usize) -> u64
-        requires id { sleeper.old.id ≡ self.now }
-        requires lane { lane < self.now.plan.sizes.lanes }
         requires cell { cell ≡ cell_of self.now.plan.sizes.capacity head }
         requires inside { cell + 1 < lane_words self.now.plan.sizes.capacity }
-        requires head { head ≡ (take_of lane sleeper.old.known).head }
+        requires head { HasHead self.now lane head sleeper.old }
         requires some { head < (take_of lane sleeper.old.known).tail }
-        ensures id { sleeper.new.id ≡ self.now }
-        ensures deeds { sleeper.new.deeds ≡ sleeper.old.deeds }
+        ensures stays { StaysInLane self.now lane sleeper.old sleeper.new }
         ensures same { sleeper.new.phase ≡ sleeper.old.phase }
-        ensures only { ChangesOnly lane sleeper.old.known sleeper.new.known }
         ensures take { take_of lane sleeper.new.known
             ≡ after_cell result (take_of lane sleeper.old.known) }
     {
@@ -106,16 +93,12 @@ impl Lanes {
 
     // Returns what is in the cell for the dimension of the job with the number `head`.
     pub(crate) fn dim_of(&self, sleeper: &mut Sleeper, lane: u32, head: u64, cell: usize) -> u32
-        requires id { sleeper.old.id ≡ self.now }
-        requires lane { lane < self.now.plan.sizes.lanes }
         requires cell { cell ≡ cell_of self.now.plan.sizes.capacity head }
         requires inside { cell + 1 < lane_words self.now.plan.sizes.capacity }
-        requires head { head ≡ (take_of lane sleeper.old.known).head }
+        requires head { HasHead self.now lane head sleeper.old }
         requires some { head < (take_of lane sleeper.old.known).tail }
-        ensures id { sleeper.new.id ≡ self.now }
-        ensures deeds { sleeper.new.deeds ≡ sleeper.old.deeds }
+        ensures stays { StaysInLane self.now lane sleeper.old sleeper.new }
         ensures same { sleeper.new.phase ≡ sleeper.old.phase }
-        ensures only { ChangesOnly lane sleeper.old.known sleeper.new.known }
         ensures take { take_of lane sleeper.new.known
             ≡ after_dim_cell result (take_of lane sleeper.old.known) }
     {
@@ -126,18 +109,14 @@ impl Lanes {
 
     // Takes the job with the number `head` as the searcher, unless another worker has.
     fn take_found(&self, sleeper: &mut Sleeper, lane: u32, job: LaneJob) -> bool
-        requires id { sleeper.old.id ≡ self.now }
         requires phase { sleeper.old.phase ≡ Searching }
-        requires lane { lane < self.now.plan.sizes.lanes }
-        requires head { job.seq ≡ (take_of lane sleeper.old.known).head }
+        requires head { HasHead self.now lane job.seq sleeper.old }
         requires payload { (take_of lane sleeper.old.known).payload ≡ Some job.payload }
         requires dim { (take_of lane sleeper.old.known).dim ≡ Some job.dim }
         requires small { job.seq + 1 < 2 ^ 64 }
-        ensures id { sleeper.new.id ≡ self.now }
-        ensures deeds { sleeper.new.deeds ≡ sleeper.old.deeds }
+        ensures stays { StaysInLane self.now lane sleeper.old sleeper.new }
         ensures phase { MatchBool result (sleeper.new.phase ≡ Found)
             (sleeper.new.phase ≡ Searching) }
-        ensures only { ChangesOnly lane sleeper.old.known sleeper.new.known }
         ensures take { MatchBool result
             (take_of lane sleeper.new.known
             ≡ after_take job.payload job.dim (take_of lane sleeper.old.known))
@@ -153,17 +132,13 @@ impl Lanes {
 
     // The same as an idle worker.
     pub(crate) fn take_idle(&self, sleeper: &mut Sleeper, lane: u32, job: LaneJob) -> bool
-        requires id { sleeper.old.id ≡ self.now }
         requires phase { sleeper.old.phase ≡ Idle }
-        requires lane { lane < self.now.plan.sizes.lanes }
-        requires head { job.seq ≡ (take_of lane sleeper.old.known).head }
+        requires head { HasHead self.now lane job.seq sleeper.old }
         requires payload { (take_of lane sleeper.old.known).payload ≡ Some job.payload }
         requires dim { (take_of lane sleeper.old.known).dim ≡ Some job.dim }
         requires small { job.seq + 1 < 2 ^ 64 }
-        ensures id { sleeper.new.id ≡ self.now }
-        ensures deeds { sleeper.new.deeds ≡ sleeper.old.deeds }
+        ensures stays { StaysInLane self.now lane sleeper.old sleeper.new }
         ensures phase { sleeper.new.phase ≡ Idle }
-        ensures only { ChangesOnly lane sleeper.old.known sleeper.new.known }
         ensures take { MatchBool result
             (take_of lane sleeper.new.known
             ≡ after_take job.payload job.dim (take_of lane sleeper.old.known))
@@ -179,18 +154,14 @@ impl Lanes {
 
     // The same by whether the worker is the searcher.
     fn take_job(&self, sleeper: &mut Sleeper, lane: u32, job: LaneJob, searches: bool) -> bool
-        requires id { sleeper.old.id ≡ self.now }
         requires phase { sleeper.old.phase ≡ ready_phase searches }
-        requires lane { lane < self.now.plan.sizes.lanes }
-        requires head { job.seq ≡ (take_of lane sleeper.old.known).head }
+        requires head { HasHead self.now lane job.seq sleeper.old }
         requires payload { (take_of lane sleeper.old.known).payload ≡ Some job.payload }
         requires dim { (take_of lane sleeper.old.known).dim ≡ Some job.dim }
         requires small { job.seq + 1 < 2 ^ 64 }
-        ensures id { sleeper.new.id ≡ self.now }
-        ensures deeds { sleeper.new.deeds ≡ sleeper.old.deeds }
+        ensures stays { StaysInLane self.now lane sleeper.old sleeper.new }
         ensures phase { MatchBool result (sleeper.new.phase ≡ done_phase searches)
             (sleeper.new.phase ≡ ready_phase searches) }
-        ensures only { ChangesOnly lane sleeper.old.known sleeper.new.known }
         ensures take { MatchBool result
             (take_of lane sleeper.new.known
             ≡ after_take job.payload job.dim (take_of lane sleeper.old.known))
@@ -209,10 +180,8 @@ impl Lanes {
         requires id { sleeper.old.id ≡ self.now }
         requires phase { sleeper.old.phase ≡ ready_phase searches }
         requires lane { lane < self.now.plan.sizes.lanes }
-        ensures id { sleeper.new.id ≡ self.now }
-        ensures deeds { sleeper.new.deeds ≡ sleeper.old.deeds }
+        ensures stays { StaysInLane self.now lane sleeper.old sleeper.new }
         ensures phase { sleeper.new.phase ≡ taken_phase searches result }
-        ensures only { ChangesOnly lane sleeper.old.known sleeper.new.known }
         ensures takes { Takes (take_of lane sleeper.old.known) result
             (take_of lane sleeper.new.known) }
         ensures steps { (take_of lane sleeper.new.known).steps
@@ -270,9 +239,7 @@ impl Lanes {
         requires id { sleeper.old.id ≡ self.now }
         requires phase { sleeper.old.phase ≡ ready_phase searches }
         requires lane { lane < self.now.plan.sizes.lanes }
-        ensures id { sleeper.new.id ≡ self.now }
-        ensures deeds { sleeper.new.deeds ≡ sleeper.old.deeds }
-        ensures only { ChangesOnly lane sleeper.old.known sleeper.new.known }
+        ensures stays { StaysInLane self.now lane sleeper.old sleeper.new }
         ensures found { IfSome result (λ _. sleeper.new.phase ≡ done_phase searches) }
         ensures same { IfNone result (sleeper.new.phase ≡ ready_phase searches) }
         ensures job { IfSome result (λ found. Takes (take_of lane sleeper.old.known)

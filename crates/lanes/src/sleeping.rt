@@ -15,6 +15,7 @@ ghost use Rattle.lanes.specs.Record.{take_of};
 ghost use Rattle.lanes.specs.Lanes.{ChangesOnly, TakesNothing, look_steps};
 ghost use Rattle.lanes.specs.declared.sizes.Plan.{Plan as ThePlan};
 ghost use Rattle.lanes.specs.declared.view.Both.{Both as TheBoth};
+ghost use Rattle.lanes.specs.Inner.Sleeper.{HasHead, StaysInLane};
 
 use crate::handles::{Seat, Worker};
 use crate::lanes::Lanes;
@@ -182,13 +183,9 @@ impl Lanes {
 
     // Returns whether no more jobs were accepted than `head`, so that the lane is empty.
     fn look_at(&self, sleeper: &mut Sleeper, lane: u32, head: u64) -> bool
-        requires id { sleeper.old.id ≡ self.now }
-        requires lane { lane < self.now.plan.sizes.lanes }
-        requires head { head ≡ (take_of lane sleeper.old.known).head }
+        requires head { HasHead self.now lane head sleeper.old }
         requires looks { LooksAt sleeper.old.phase lane }
-        ensures id { sleeper.new.id ≡ self.now }
-        ensures deeds { sleeper.new.deeds ≡ sleeper.old.deeds }
-        ensures only { ChangesOnly lane sleeper.old.known sleeper.new.known }
+        ensures stays { StaysInLane self.now lane sleeper.old sleeper.new }
         ensures phase { sleeper.new.phase ≡ looked self.now.plan sleeper.old.phase result }
         ensures none { TakesNothing 1 (take_of lane sleeper.old.known)
             (take_of lane sleeper.new.known) }

@@ -1,4 +1,4 @@
-use Rattle.std.proofs.Common.{◌∙◌, refl, ap, arith}
+use Rattle.std.proofs.Common.{rules, ◌∙◌, refl, ap, arith}
 use Rattle.lanes.specs.Inner.Pool.{known_sat, phase_in}
 use Rattle.lanes.specs.declared.sizes.Plan.{Plan}
 use Rattle.lanes.specs.declared.sizes.TheConstants.{HEAD}
@@ -24,8 +24,12 @@ invariant_of-sleeper c = (
   still_here c.sleeper.inside.plan c.sleeper.inside.number c.sleeper.inside.seat.me c.load.new.seat.me c.sleeper.invariant.1 c.load.ensures.2.1,
 )
 
-pub returns-clause-only : goal.returns-clause-only
-returns-clause-only c = (moves c.sleeper.inside.plan c.args.self.now.plan c.sleeper.inside.number c.sleeper.inside.tails.items (known_sat c.sleeper.inside.seat.me) (known_sat c.load.new.seat.me) c.args.sleeper.now.known c.args.lane c.word-head.result HEAD c.sleeper.invariant.0 (ap (λ (x : SleeperOf). x.known) c.sleeper.view_is) (ap (λ (x : LanesId). x.plan) (ap (λ (x : SleeperOf). x.id) c.sleeper.view_is ∙ c.requires.id)) c.requires.lane c.word-head.ensures.word (omega arith) (after_head c.load.result) refl c.load.ensures.2.0).only
+pub returns-clause-stays : goal.returns-clause-stays
+returns-clause-stays c = record {
+  id = search rules;
+  deeds = search rules;
+  only = (moves c.sleeper.inside.plan c.args.self.now.plan c.sleeper.inside.number c.sleeper.inside.tails.items (known_sat c.sleeper.inside.seat.me) (known_sat c.load.new.seat.me) c.args.sleeper.now.known c.args.lane c.word-head.result HEAD c.sleeper.invariant.0 (ap (λ (x : SleeperOf). x.known) c.sleeper.view_is) (ap (λ (x : LanesId). x.plan) (ap (λ (x : SleeperOf). x.id) c.sleeper.view_is ∙ c.requires.id)) c.requires.lane c.word-head.ensures.word (omega arith) (after_head c.load.result) refl c.load.ensures.2.0).only;
+}
 
 pub returns-clause-take : goal.returns-clause-take
 returns-clause-take c = (moves c.sleeper.inside.plan c.args.self.now.plan c.sleeper.inside.number c.sleeper.inside.tails.items (known_sat c.sleeper.inside.seat.me) (known_sat c.load.new.seat.me) c.args.sleeper.now.known c.args.lane c.word-head.result HEAD c.sleeper.invariant.0 (ap (λ (x : SleeperOf). x.known) c.sleeper.view_is) (ap (λ (x : LanesId). x.plan) (ap (λ (x : SleeperOf). x.id) c.sleeper.view_is ∙ c.requires.id)) c.requires.lane c.word-head.ensures.word (omega arith) (after_head c.load.result) refl c.load.ensures.2.0).take

@@ -8,7 +8,7 @@ pub returns-in-Some-clause-takes : goal.returns-in-Some-clause-takes
 returns-in-Some-clause-takes c =
     let same = ap (λ (x : LanesId). x.plan.sizes.lanes) c.self.view_is in
     let more : c.loop-turn.turn < c.args.self.now.plan.sizes.lanes = omega (arith, c.loop-turn-test.true, same) in
-    (round_has_job _ _ _ _ _ _ _ _ c.requires.from c.loop-turn.invariant.1 more c.try_lane.ensures.only c.try_lane.ensures.steps c.in-Some.job c.in-Some.left c.in-Some.ensures.job).0
+    (round_has_job _ _ _ _ _ _ _ _ c.requires.from c.loop-turn.invariant.1 more c.try_lane.ensures.stays.only c.try_lane.ensures.steps c.in-Some.job c.in-Some.left c.in-Some.ensures.job).0
 
 pub loop-turn-preserved : goal.loop-turn-preserved
 loop-turn-preserved c =
@@ -16,11 +16,11 @@ loop-turn-preserved c =
     let same = ap (λ (x : LanesId). x.plan.sizes.lanes) c.self.view_is in
     let more : c.loop-turn.turn < lanes = omega (arith, c.loop-turn-test.true, same) in
     let next : c.lane_after-lane.result ≡ next_lane lanes c.loop-turn.lane = c.lane_after-lane.ensures ∙ ap (λ (n : ℕ). next_lane n c.loop-turn.lane) same in (
-      c.try_lane.ensures.id,
+      c.try_lane.ensures.stays.id,
       subst (λ (n : ℕ). IsAt lanes c.args.from n (c.loop-turn.turn + 1) c.try_lane.new.all_ended c.args.sleeper.now.known c.try_lane.new.sleeper.known) (sym next)
-          (round_goes_on _ _ _ _ _ _ _ _ c.requires.from c.loop-turn.invariant.1 more c.try_lane.ensures.only c.try_lane.ensures.steps c.try_lane.new.all_ended c.in_default.ensures.none),
+          (round_goes_on _ _ _ _ _ _ _ _ c.requires.from c.loop-turn.invariant.1 more c.try_lane.ensures.stays.only c.try_lane.ensures.steps c.try_lane.new.all_ended c.in_default.ensures.none),
       c.in_default.ensures.same,
-      c.try_lane.ensures.deeds ∙ c.loop-turn.invariant.3,
+      c.try_lane.ensures.stays.deeds ∙ c.loop-turn.invariant.3,
     )
 
 pub returns-clause-takes : goal.returns-clause-takes
