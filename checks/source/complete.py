@@ -109,7 +109,7 @@ def of_pages():
     for page in map(place, pages):
         others = texts("README.md", "CONTRIBUTING.md", *(it for it in pages if place(it) != page))
         yield "page", os.path.basename(page), {"a link of another page": others}
-    measured = texts("docs/PERFORMANCE.md", "docs/STATUS.md", "CONTRIBUTING.md", "docs/SOURCE.md",
+    measured = texts("docs/PERFORMANCE.md", "docs/STATUS.md", "CONTRIBUTING.md", "docs/RUST.md",
                      "rust/pool/README.md")
     for name in sorted(os.listdir(path("bench"))):
         if os.path.isfile(path("bench", name)) and os.access(path("bench", name), os.X_OK):

@@ -5,7 +5,7 @@
   left out must begin with a word of the prover, and what is put in must be on a short list.
 - The eraser must refuse forms that it does not know, and those that Rust and Rattle read differently.
 - The shim has at most 370 lines of code. What it replaces in the toolchain has not changed since the shim was read.
-- docs/SOURCE.md says of each function with a `requires` that the package calls, what keeps it.
+- rust/src/source/README.md says of each function with a `requires` that the package calls, what keeps it.
 
 `checks/run source [--write]`.
 """
@@ -20,7 +20,7 @@ from checks.lib.rows import Row, Wrong, must, needs, run_rows
 from checks.lib.token_trees import Unknown, parsed, shown
 from checks.lib.toolchain import kit
 
-HOME, SHIM, EXPORTS, PAGE = "rust/src/source", "rust/src/source/kit", "rust/c/src", "docs/SOURCE.md"
+HOME, SHIM, EXPORTS, PAGE = "rust/src/source", "rust/src/source/kit", "rust/c/src", "rust/src/source/README.md"
 BY_HAND = (f"{HOME}/mod.rs", f"{EXPORTS}/lib.rs", f"{EXPORTS}/slices.rs")
 LINES_OF_SHIM = 370
 # The files of the toolchain that the shim stands for, by the first half of the checksum that each had when it was read.

@@ -44,7 +44,7 @@ PARTS = {
           rf"{DOC}/examples/\w+\.c(pp)?", rf"{DOC}/examples/(?!processes|day|gang)\w+\.out",
           rf"{DOC}/examples/batch\.jobs",
           rf"{DOC}/examples/mpi/\w+\.(c|md)"),
-    "rust": (r"share/cubejobs/rust/.*", rf"{DOC}/docs/(RUST|SOURCE)\.md", rf"{DOC}/examples/batch\.jobs"),
+    "rust": (r"share/cubejobs/rust/.*", rf"{DOC}/docs/RUST\.md", rf"{DOC}/examples/batch\.jobs"),
     "python": (r"share/cubejobs/python/cubejobs/(\w+\.py|py\.typed)", rf"{DOC}/examples/(processes|day|gang)\.(py|out)",
                r"lib/libcubejobs_(fit|plan|sched|regions)\.so\.\d+\.\d+(\.\d+)?"),
     "program": (r"bin/cubejobs", r"share/man/man1/cubejobs\.1", r"share/cubejobs/index\.html",

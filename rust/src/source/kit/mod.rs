@@ -1,7 +1,7 @@
 //! The shim: what the proved sources take from their toolchain, written by hand in safe Rust.
 //!
-//! It is trusted: no proof speaks of it. `docs/SOURCE.md` of the repository has a table that puts
-//! each function beside the text of the toolchain that it replaces.
+//! It is trusted: no proof speaks of it. `README.md` of the folder above has a table that puts each
+//! function beside the text of the toolchain that it replaces.
 
 pub mod alloc;
 #[cfg(any(feature = "lanes", feature = "regions", feature = "sched"))]
