@@ -1,6 +1,6 @@
 """Finds what a script can find of the rules of prose in CONTRIBUTING.md: long sentences, lines and table cells, banned
-words, and doc comments of functions that do not begin with a verb. It counts the words of each document, and the guides
-for users have a limit.
+words, and doc comments of functions that do not begin with a verb. It counts the words of each document. The guides for
+users and the first pages for maintainers have a limit.
 
 It reads the documents that are written by hand, and the comments of sources, definitions, proofs and headers. Code
 blocks do not count, code in backticks is one word, and a link is its text. A list item, a heading and a table cell end
@@ -24,11 +24,12 @@ GENERATED = ("crates/README.md",)
 ERASED = tuple(f"rust/src/source/{it}/" for it in erase.CRATES)
 # The pages on calling, which are counted together.
 PAGES = "crates/*/CALLING.md"
-# The guides, with the most words of each: the pages by which a user builds, installs, calls or runs this. A user reads
-# them from end to end, so they stay short. Others explain or list, are read in parts, and have no limit.
-GUIDES = {
-    "README.md": 1200, "docs/GUIDE.md": 1900, "docs/C.md": 2880, "docs/RUST.md": 1500, "docs/INSTALL.md": 230,
-    "docs/SOURCE.md": 860, "docs/MACHINES.md": 900, "docs/SCHEDULER.md": 1350,
+# The pages that are read from end to end, with the most words of each, so that they stay short: the guides by which a
+# user builds, installs, calls or runs this, and the first pages for a maintainer. Others explain or list, are read in
+# parts, and have no limit.
+LIMITS = {
+    "README.md": 1200, "docs/GUIDE.md": 1900, "docs/C.md": 2960, "docs/RUST.md": 1760, "docs/INSTALL.md": 230,
+    "docs/SCHEDULER.md": 1350, "docs/PLANNER.md": 1400, "CONTRIBUTING.md": 900, "docs/ARCHITECTURE.md": 1500,
 }
 # Words that are not written, and what to say.
 BANNED = {
@@ -154,7 +155,8 @@ def faults_in(file, text):
 
 def documents():
     """Returns the documents that are written by hand."""
-    patterns = "*.md", "docs/*.md", "rust/README.md", "rust/pool/README.md", PAGES
+    readmes = (f"{it}/README.md" for it in ("examples/mpi", "rust", "rust/pool", "rust/src/source"))
+    patterns = "*.md", "docs/*.md", *readmes, PAGES
     found = [place(it) for pattern in patterns for it in sorted(glob.glob(path(pattern)))]
     return [it for it in found if it not in GENERATED]
 
@@ -182,13 +184,13 @@ def counted():
 
 def show(found):
     for name, words in found.items():
-        print(f"{name:22}{words:>7}" + (f" of {GUIDES[name]}" if name in GUIDES else ""))
-    print(f"{'all':22}{sum(found.values()):>7}")
+        print(f"{name:26}{words:>7}" + (f" of {LIMITS[name]}" if name in LIMITS else ""))
+    print(f"{'all':26}{sum(found.values()):>7}")
 
 
-def long_guides(found):
-    """Yields each guide that is not there, or has more words than its limit."""
-    for name, most in GUIDES.items():
+def long_pages(found):
+    """Yields each page with a limit that is not there, or has more words than its limit."""
+    for name, most in LIMITS.items():
         words = found.get(name, 0)
         if words > most or not words:
             yield f"{name} has {words} words, and {most} are allowed" if words else f"there is no {name}"
@@ -220,11 +222,11 @@ def main(words):
     files = [place(os.path.realpath(it)) for it in words] or [*documents(), *sources()]
     faults = [fault for file in files for fault in faults_in(file, read(file))]
     faults += blind("prose", ((faults_in(file, text), wanted) for file, text, wanted in SAMPLES))
-    faults += blind("prose", (([*long_guides({**GUIDES, name: most})], wanted) for name, most, wanted in LENGTHS))
+    faults += blind("prose", (([*long_pages({**LIMITS, name: most})], wanted) for name, most, wanted in LENGTHS))
     if not words:
         found = counted()
         show(found)
-        faults += long_guides(found)
+        faults += long_pages(found)
     status = print_faults(faults)
     print(f"prose: {len(faults)} faults in {len(files)} files")
     return status
