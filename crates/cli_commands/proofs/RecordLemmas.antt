@@ -1,4 +1,4 @@
--- A recorded run, its events, and the file that holds them.
+-- A run, its events, and the file that holds them.
 use Rattle.std.proofs.Common.{◌≡◌, ◌⊎◌, inl, inr, ℕ, Bool, true, false, true≢false, List, [], Option, None, Some, Result, Ok, Err, IfErr, IfOk, IfSome, OnOk, refl, sym, ap, subst, ◌∙◌, if◌then◌else◌}
 use Rattle.std.specs.Io.KnownBytes.{Appends}
 use Rattle.job_types.specs.Job.{JobData}
@@ -13,20 +13,20 @@ use Rattle.jobs_csv.specs.Text.{file_text}
 use Rattle.cli_args.specs.declared.invocation.Invocation.{Invocation}
 use Rattle.cli_args.specs.declared.invocation.Invocation.TheVariants.{Run, RunLong, Report, Place, Replay}
 use Rattle.cli_commands.specs.Answer.{IsAnswer, IsMetBeforeWriting}
-use Rattle.cli_commands.specs.Events.{AreEventsOf, HasEvents, WritesEvents, run_in}
+use Rattle.cli_commands.specs.Events.{AreEventsOf, HasEvents, IsSunk, WritesEvents, run_in}
 use Rattle.cli_commands.specs.FileRun.{ReturnsRun}
 use Rattle.cli_commands.specs.Inner.Files.{IsSettled}
-use Rattle.cli_commands.specs.Inner.Recording.{IfRecorded, IsFaultBeside, IsSunk}
+use Rattle.cli_commands.specs.Inner.Recording.{IfRan, IsFaultBeside}
 use Rattle.cli_commands.specs.Program.{IsAnswerTo, IsFaultOf}
 use Rattle.cli_commands.specs.Replies.{AnswersJobs, replies_in}
 use Rattle.cli_commands.specs.declared.files.CommandError.{CommandError}
 use Rattle.cli_commands.specs.declared.files.CommandError.TheVariants as error
-use Rattle.cli_commands.specs.declared.recorded_run.RecordedRun.{RecordedRun}
+use Rattle.cli_commands.specs.declared.file_run.FileRun.{FileRun}
 use Rattle.cli_commands.specs.declared.shop.AnswerError.{AnswerError}
 use Rattle.atomic_file.specs.Store.{held_by}
 use Rattle.cli_commands.proofs.RunLemmas.{write_refuses_nothing}
 
--- ---- a run that is not recorded
+-- ---- a run whose events are not listed
 
 -- memory was refused before the run
 pub no_run : {M : Type 0} (words_of : M → List ℕ) (n : ℕ) (parse : Result (List JobData) Fault)
@@ -45,19 +45,19 @@ run_without_events words_of n parse fault end is (jobs, good, run, answers) = (�
 
 -- ---- the events of a file
 
-pub events_written : {M : Type 0} (words_of : M → List ℕ) (n : ℕ) (read : Option (List ℕ))
-    (parse : List ℕ → Result (List JobData) Fault)
-    (recorded : Result (RecordedRun M) (AnswerError M)) (result : Result (Unit {0}) Fault)
+pub events_written : {M : Type 0} (has_file : Bool) (words_of : M → List ℕ) (n : ℕ)
+    (read : Option (List ℕ)) (parse : List ℕ → Result (List JobData) Fault)
+    (ran : Result (FileRun M) (AnswerError M)) (result : Result (Unit {0}) Fault)
     (writes : List JobEvent → Type 0)
-    → IfOk recorded (λ run. AreEvents (replies_in run.end.finished) run.events.items)
-    → OnOk result (IfRecorded recorded (λ run. writes run.events.items))
-    → IfSome read (λ bytes. ReturnsRun words_of n (parse bytes) (run_in recorded))
-    → OnOk result (IfSome read (λ bytes. (events : List JobEvent)
+    → (has_file ≡ true → IfOk ran (λ run. AreEvents (replies_in run.end.finished) run.events.items))
+    → (has_file ≡ true → OnOk result (IfRan ran (λ run. writes run.events.items)))
+    → IfSome read (λ bytes. ReturnsRun words_of n (parse bytes) (run_in ran))
+    → OnOk result (IfSome read (λ bytes. has_file ≡ true → (events : List JobEvent)
     × AreEventsOf n (parse bytes) events × writes events))
-events_written words_of n read parse recorded (Err fault) writes are wrote returns = tt
-events_written words_of n None parse recorded (Ok done) writes are wrote returns = tt
-events_written words_of n (Some bytes) parse (Err error) (Ok done) writes are wrote returns = absurd wrote
-events_written words_of n (Some bytes) parse (Ok run) (Ok done) writes are wrote (jobs, good, filed, answers) = (
+events_written has_file words_of n read parse ran (Err fault) writes are wrote returns = tt
+events_written has_file words_of n None parse ran (Ok done) writes are wrote returns = tt
+events_written has_file words_of n (Some bytes) parse (Err error) (Ok done) writes are wrote returns = λ has. absurd (wrote has)
+events_written has_file words_of n (Some bytes) parse (Ok run) (Ok done) writes are wrote (jobs, good, filed, answers) = λ has. (
   run.events.items,
   record {
     jobs = jobs;
@@ -65,42 +65,42 @@ events_written words_of n (Some bytes) parse (Ok run) (Ok done) writes are wrote
     good = good;
     same = answers.same;
     right = answers.right;
-    are_events = are;
+    are_events = are has;
   },
-  wrote,
+  wrote has,
 )
 
 -- the rows and the events of a run are written, or its fault is passed on
-pub recorded_answer : {M Row : Type 0} (words_of : M → List ℕ) (n : ℕ)
+pub run_answer : {M Row : Type 0} (words_of : M → List ℕ) (n : ℕ)
     (parse : Result (List JobData) Fault) (answers : List JobData → List Row → Type 0)
-    (text : List Row → List ℕ) (old new : Option (List ℕ)) (wb wa kb ka : ℕ)
-    (recorded : Result (RecordedRun M) (AnswerError M)) (run : RecordedRun M)
+    (text : List Row → List ℕ) (old new : Option (List ℕ)) (wb wa : ℕ) (has_file : Bool)
+    (kb ka : ℕ) (ran : Result (FileRun M) (AnswerError M)) (run : FileRun M)
     (result : Result (Unit {0}) Fault)
-    → recorded ≡ Ok run
-    → ReturnsRun words_of n parse (run_in recorded)
+    → ran ≡ Ok run
+    → ReturnsRun words_of n parse (run_in ran)
     → ((jobs : List JobData) → AnswersJobs n jobs run.end.finished
     → OnOk result ((rows : List Row) × answers jobs rows × Appends old new (text rows)))
     → IfErr result (λ fault. (fault ≡ attribute what.Write wb wa)
-    ⊎ (fault ≡ attribute what.Write kb ka)
+    ⊎ (has_file ≡ true × (fault ≡ attribute what.Write kb ka))
     ⊎ (fault ≡ record { row = 0; what = what.OutOfMemory }))
     → IsAnswer parse answers text old new result
-recorded_answer {M = M} {Row = Row} words_of n parse answers text old new wb wa kb ka recorded run (Ok done) ran is written failed =
-    let (jobs, good, ended, all) = subst (λ (r : Result (RecordedRun M) (AnswerError M)). ReturnsRun words_of n parse (run_in r)) ran is in
+run_answer {M = M} {Row = Row} words_of n parse answers text old new wb wa has_file kb ka ran run (Ok done) same is written failed =
+    let (jobs, good, ended, all) = subst (λ (r : Result (FileRun M) (AnswerError M)). ReturnsRun words_of n parse (run_in r)) same is in
     let (rows, are, out) = written jobs all in
     record { things = jobs; rows = rows; good = good; answered = are; written = out }
-recorded_answer words_of n parse answers text old new wb wa kb ka recorded run (Err fault) ran is written (inl rows) = λ refused. absurd (write_refuses_nothing fault wb wa rows refused)
-recorded_answer words_of n parse answers text old new wb wa kb ka recorded run (Err fault) ran is written (inr (inl events)) = λ refused. absurd (write_refuses_nothing fault kb ka events refused)
-recorded_answer words_of n parse answers text old new wb wa kb ka recorded run (Err fault) ran is written (inr (inr memory)) = λ refused. absurd (true≢false (sym refused ∙ ap (λ (f : Fault). is_refusal f.what) memory))
+run_answer words_of n parse answers text old new wb wa has_file kb ka ran run (Err fault) same is written (inl rows) = λ refused. absurd (write_refuses_nothing fault wb wa rows refused)
+run_answer words_of n parse answers text old new wb wa has_file kb ka ran run (Err fault) same is written (inr (inl (has, events))) = λ refused. absurd (write_refuses_nothing fault kb ka events refused)
+run_answer words_of n parse answers text old new wb wa has_file kb ka ran run (Err fault) same is written (inr (inr memory)) = λ refused. absurd (true≢false (sym refused ∙ ap (λ (f : Fault). is_refusal f.what) memory))
 
-pub recorded_fault : {M Row : Type 0} (words_of : M → List ℕ) (n : ℕ)
+pub run_fault : {M Row : Type 0} (words_of : M → List ℕ) (n : ℕ)
     (parse : Result (List JobData) Fault) (answers : List JobData → List Row → Type 0)
     (text : List Row → List ℕ) (old : Option (List ℕ))
-    (recorded : Result (RecordedRun M) (AnswerError M)) (error : AnswerError M)
-    → recorded ≡ Err error
-    → ReturnsRun words_of n parse (run_in recorded)
+    (ran : Result (FileRun M) (AnswerError M)) (error : AnswerError M)
+    → ran ≡ Err error
+    → ReturnsRun words_of n parse (run_in ran)
     → IsAnswer parse answers text old old (Err error.fault)
-recorded_fault {M = M} words_of n parse answers text old recorded error is returns =
-    let passed = subst (λ (r : Result (RecordedRun M) (AnswerError M)). ReturnsRun words_of n parse (run_in r)) is returns in passed.0
+run_fault {M = M} words_of n parse answers text old ran error is returns =
+    let passed = subst (λ (r : Result (FileRun M) (AnswerError M)). ReturnsRun words_of n parse (run_in r)) is returns in passed.0
 
 -- ---- the file of the events
 
@@ -150,9 +150,10 @@ for_all (Some bytes) P holds = holds bytes
 
 -- ---- a command that runs no jobs
 
-module _ (answer result : Result (Unit {0}) Fault) (kb ka : ℕ)
+module _ (has_file : Bool) (answer result : Result (Unit {0}) Fault) (kb ka : ℕ)
     (passed : IfErr answer (λ fault. result ≡ Err fault))
-    (failed : OnOk answer (IfErr result (λ fault. fault ≡ attribute what.Write kb ka))) where
+    (failed : OnOk answer (IfErr result (λ fault. has_file ≡ true
+    × (fault ≡ attribute what.Write kb ka)))) where
   -- the command is answered
   pub none_answer : (invocation : Invocation) (read old new : Option (List ℕ))
       → IfSome read (λ b. IsAnswerTo invocation b old new answer)
@@ -161,28 +162,28 @@ module _ (answer result : Result (Unit {0}) Fault) (kb ka : ℕ)
     where
       by_both : (r a : Result (Unit {0}) Fault)
           → IfErr r (λ fault. a ≡ Err fault)
-          → OnOk r (IfErr a (λ fault. fault ≡ attribute what.Write kb ka))
+          → OnOk r (IfErr a (λ fault. has_file ≡ true × (fault ≡ attribute what.Write kb ka)))
           → IfSome read (λ b. IsAnswerTo invocation b old new r)
           → IfSome read (λ b. IsAnswerTo invocation b old new a)
       by_both (Err fault) a is wrote answers = subst (λ (x : Result (Unit {0}) Fault). IfSome read (λ b. IsAnswerTo invocation b old new x)) (sym is) answers
       by_both (Ok done) (Ok listed) is wrote answers = answers
-      by_both (Ok done) (Err fault) is wrote answers = for_all read (λ b. IsAnswerTo invocation b old new (Err fault)) (λ b. not_refused_answer invocation b old new fault (write_refuses_nothing fault kb ka wrote))
+      by_both (Ok done) (Err fault) is wrote answers = for_all read (λ b. IsAnswerTo invocation b old new (Err fault)) (λ b. not_refused_answer invocation b old new fault (write_refuses_nothing fault kb ka wrote.1))
 
   -- or failed, by itself or by the file of the events
   pub none_failed : (invocation : Invocation) (rb ra wb wa : ℕ)
       → IfErr answer (IsFaultOf rb ra wb wa invocation)
       → IfErr result (λ fault. IsFaultOf rb ra wb wa invocation fault
-      ⊎ IsFaultOf rb ra kb ka invocation fault)
+      ⊎ (has_file ≡ true × IsFaultOf rb ra kb ka invocation fault))
   none_failed invocation rb ra wb wa may = by_both answer result passed failed may
     where
       by_both : (r a : Result (Unit {0}) Fault)
           → IfErr r (λ fault. a ≡ Err fault)
-          → OnOk r (IfErr a (λ fault. fault ≡ attribute what.Write kb ka))
+          → OnOk r (IfErr a (λ fault. has_file ≡ true × (fault ≡ attribute what.Write kb ka)))
           → IfErr r (IsFaultOf rb ra wb wa invocation)
-          → IfErr a (λ fault. IsFaultOf rb ra wb wa invocation fault ⊎ IsFaultOf rb ra kb ka invocation fault)
-      by_both (Err fault) a is wrote is_of = subst (λ (x : Result (Unit {0}) Fault). IfErr x (λ f. IsFaultOf rb ra wb wa invocation f ⊎ IsFaultOf rb ra kb ka invocation f)) (sym is) (inl is_of)
+          → IfErr a (λ fault. IsFaultOf rb ra wb wa invocation fault ⊎ (has_file ≡ true × IsFaultOf rb ra kb ka invocation fault))
+      by_both (Err fault) a is wrote is_of = subst (λ (x : Result (Unit {0}) Fault). IfErr x (λ f. IsFaultOf rb ra wb wa invocation f ⊎ (has_file ≡ true × IsFaultOf rb ra kb ka invocation f))) (sym is) (inl is_of)
       by_both (Ok done) (Ok listed) is wrote is_of = tt
-      by_both (Ok done) (Err fault) is wrote is_of = inr (write_fault invocation rb ra kb ka fault wrote)
+      by_both (Ok done) (Err fault) is wrote is_of = inr (wrote.0, write_fault invocation rb ra kb ka fault wrote.1)
 
   -- and nothing is written before that
   pub none_untouched : (P : Type 0)
@@ -192,61 +193,33 @@ module _ (answer result : Result (Unit {0}) Fault) (kb ka : ℕ)
     where
       by_both : (r a : Result (Unit {0}) Fault)
           → IfErr r (λ fault. a ≡ Err fault)
-          → OnOk r (IfErr a (λ fault. fault ≡ attribute what.Write kb ka))
+          → OnOk r (IfErr a (λ fault. has_file ≡ true × (fault ≡ attribute what.Write kb ka)))
           → IfErr r (λ fault. IsMetBeforeWriting fault → P)
           → IfErr a (λ fault. IsMetBeforeWriting fault → P)
       by_both (Err fault) a is wrote same = subst (λ (x : Result (Unit {0}) Fault). IfErr x (λ f. IsMetBeforeWriting f → P)) (sym is) same
       by_both (Ok done) (Ok listed) is wrote same = tt
-      by_both (Ok done) (Err fault) is wrote same = λ met. absurd (write_is_late fault kb ka wrote met)
+      by_both (Ok done) (Err fault) is wrote same = λ met. absurd (write_is_late fault kb ka wrote.1 met)
 
 -- it has no events
-pub none_written : (invocation : Invocation) (writes : List JobEvent → Type 0)
+pub none_written : (has_file : Bool) (invocation : Invocation) (writes : List JobEvent → Type 0)
     (read : Option (List ℕ)) (result : Result (Unit {0}) Fault)
     → ((bytes : List ℕ) → HasEvents invocation bytes [])
-    → OnOk result (writes [])
-    → OnOk result (IfSome read (λ bytes. (events : List JobEvent)
-    × HasEvents invocation bytes events × writes events))
-none_written invocation writes read (Err fault) none wrote = tt
-none_written invocation writes None (Ok done) none wrote = tt
-none_written invocation writes (Some bytes) (Ok done) none wrote = ([], none bytes, wrote)
+    → (has_file ≡ true → OnOk result (writes []))
+    → OnOk result (IfSome read (IsSunk has_file writes invocation))
+none_written has_file invocation writes read (Err fault) none wrote = tt
+none_written has_file invocation writes None (Ok done) none wrote = tt
+none_written has_file invocation writes (Some bytes) (Ok done) none wrote = λ has. ([], none bytes, wrote has)
 
--- ---- a command whose events are written
+-- ---- a command whose events may be written
 
-pub file_failed : (has_file : Bool) (invocation : Invocation) (rb ra wb wa kb ka : ℕ)
+pub beside : (has_file : Bool) (invocation : Invocation) (rb ra wb wa kb ka : ℕ)
     (result : Result (Unit {0}) Fault)
-    → has_file ≡ true
     → IfErr result (λ fault. IsFaultOf rb ra wb wa invocation fault
-    ⊎ IsFaultOf rb ra kb ka invocation fault)
+    ⊎ (has_file ≡ true × IsFaultOf rb ra kb ka invocation fault))
     → IfErr result (IsFaultBeside has_file rb ra wb wa invocation)
-file_failed has_file invocation rb ra wb wa kb ka (Ok done) has failed = tt
-file_failed has_file invocation rb ra wb wa kb ka (Err fault) has (inl rows) = ((wb, wa), (λ none. refl), rows)
-file_failed has_file invocation rb ra wb wa kb ka (Err fault) has (inr events) = ((kb, ka), (λ none. absurd (true≢false (sym has ∙ none))), events)
-
-pub file_sunk : (has_file : Bool) (writes : List JobEvent → Type 0) (invocation : Invocation)
-    (read : Option (List ℕ)) (result : Result (Unit {0}) Fault)
-    → OnOk result (IfSome read (λ bytes. (events : List JobEvent)
-    × HasEvents invocation bytes events × writes events))
-    → OnOk result (IfSome read (IsSunk has_file writes invocation))
-file_sunk has_file writes invocation read (Err fault) wrote = tt
-file_sunk has_file writes invocation None (Ok done) wrote = tt
-file_sunk has_file writes invocation (Some bytes) (Ok done) wrote = λ has. wrote
-
--- ---- a command whose events are not written
-
-pub no_file_failed : (has_file : Bool) (invocation : Invocation) (rb ra wb wa : ℕ)
-    (result : Result (Unit {0}) Fault)
-    → IfErr result (IsFaultOf rb ra wb wa invocation)
-    → IfErr result (IsFaultBeside has_file rb ra wb wa invocation)
-no_file_failed has_file invocation rb ra wb wa (Ok done) failed = tt
-no_file_failed has_file invocation rb ra wb wa (Err fault) failed = ((wb, wa), (λ none. refl), failed)
-
-pub not_sunk : (has_file : Bool) (writes : List JobEvent → Type 0) (invocation : Invocation)
-    (read : Option (List ℕ)) (result : Result (Unit {0}) Fault)
-    → has_file ≡ false
-    → OnOk result (IfSome read (IsSunk has_file writes invocation))
-not_sunk has_file writes invocation read (Err fault) none = tt
-not_sunk has_file writes invocation None (Ok done) none = tt
-not_sunk has_file writes invocation (Some bytes) (Ok done) none = λ has. absurd (true≢false (sym has ∙ none))
+beside has_file invocation rb ra wb wa kb ka (Ok done) failed = tt
+beside has_file invocation rb ra wb wa kb ka (Err fault) (inl rows) = ((wb, wa), (λ none. refl), rows)
+beside has_file invocation rb ra wb wa kb ka (Err fault) (inr (has, events)) = ((kb, ka), (λ none. absurd (true≢false (sym has ∙ none))), events)
 
 -- ---- a request whose events are written
 

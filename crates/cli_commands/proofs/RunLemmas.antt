@@ -1,9 +1,8 @@
 -- From a run of the jobs of a file to the rows that are written.
-use Rattle.std.proofs.Common.{◌≡◌, ◌⊎◌, inl, inr, ℕ, ◌≤◌, Bool, true, false, not, ◌&&◌, true≢false, List, Option, Some, None, IfSome, IfErr, OnOk, Result, Ok, Err, Vec, Global, length, map, refl, sym, ap, subst, ◌∙◌, if◌then◌else◌}
+use Rattle.std.proofs.Common.{◌≡◌, ◌⊎◌, inl, ℕ, ◌≤◌, Bool, true, false, not, ◌&&◌, true≢false, List, Option, Some, None, IfSome, IfErr, Result, Ok, Err, Vec, Global, length, map, refl, sym, ap, subst, ◌∙◌, if◌then◌else◌}
 use Rattle.std.specs.Prelude.{Any}
 use Rattle.std.specs.Bool.{⊤}
 use Rattle.std.specs.List.Sorted.{IsPermutation}
-use Rattle.std.specs.Io.KnownBytes.{Appends}
 use Rattle.std.proofs.lemmas.List.{length-map}
 use Rattle.std.proofs.lemmas.List.Folds.{Any-from_list_any}
 use Rattle.std.proofs.lemmas.List.Sorted.{All-permutation, IsPermutation-map, IsPermutation-trans}
@@ -33,11 +32,9 @@ use Rattle.jobs_csv.specs.declared.fault.FaultKind.TheVariants as what
 use Rattle.jobs_csv.specs.Fault.{attribute, has_failed, is_refusal}
 use Rattle.jobs_csv.specs.Jobs.{parse_jobs}
 use Rattle.jobs_csv.specs.Lanes.{AreLanes, ReturnsLanes}
-use Rattle.cli_commands.specs.Answer.{IsAnswer}
 use Rattle.cli_commands.specs.FileRun.{HasSpentLane, ReturnsRun}
-use Rattle.cli_commands.specs.Inner.Shop.{fault_in, kind_of_reason, error_of}
+use Rattle.cli_commands.specs.Inner.Shop.{kind_of_reason, error_of}
 use Rattle.cli_commands.specs.OpenLanes.{AreOpenLanes, IsLaneCount}
-use Rattle.cli_commands.specs.declared.shop.AnswerError.{AnswerError}
 use Rattle.cli_commands.specs.Replies.{AnswersJobs, AreReplies, replies_in}
 use Rattle.cli_commands.proofs.OrderLemmas.{all_jobs}
 
@@ -180,49 +177,3 @@ pub write_failed : (before after : ℕ) (result : Result (Unit {0}) Fault)
     ⊎ (fault ≡ record { row = 0; what = what.OutOfMemory }))
 write_failed before after (Ok done) failed = tt
 write_failed before after (Err fault) failed = inl failed
-
--- or the one that was returned instead of a run
-pub output_failed : (told : Option Fault) (before after : ℕ) (result : Result (Unit {0}) Fault)
-    → IfErr result (λ fault. (fault ≡ attribute what.Write before after)
-    ⊎ (fault ≡ record { row = 0; what = what.OutOfMemory }))
-    → IfErr result (λ fault. (told ≡ Some fault) ⊎ (fault ≡ attribute what.Write before after)
-    ⊎ (fault ≡ record { row = 0; what = what.OutOfMemory }))
-output_failed told before after (Ok done) failed = tt
-output_failed told before after (Err fault) failed = inr failed
-
-not_refused : (fault : Fault) (before after : ℕ)
-    → (fault ≡ attribute what.Write before after)
-    ⊎ (fault ≡ record { row = 0; what = what.OutOfMemory })
-    → is_refusal fault.what ≡ true
-    → ⊥
-not_refused fault before after (inl is) refused = write_refuses_nothing fault before after is refused
-not_refused fault before after (inr is) refused = absurd (true≢false (sym (ap (λ (f : Fault). is_refusal f.what) (sym is) ∙ refused)))
-
--- a fault instead of a run is returned
-pub fault_passed : {M Row : Type 0} (words_of : M → List ℕ) (n : ℕ)
-    (parse : Result (List JobData) Fault) (answers : List JobData → List Row → Type 0)
-    (text : List Row → List ℕ) (old new : Option (List ℕ))
-    (answer : Result (RunEnd M) (AnswerError M)) (fault : Fault)
-    → fault_in answer ≡ Some fault
-    → ReturnsRun words_of n parse answer
-    → IsAnswer parse answers text old new (Err fault)
-fault_passed words_of n parse answers text old new (Ok end) fault none is = cc
-fault_passed words_of n parse answers text old new (Err error) fault same is = subst (λ (f : Fault). is_refusal f.what ≡ true → parse ≡ Err f) (cc) is.0
-
--- what is made of the run of a file, written or not
-pub output_answered : {M Row : Type 0} (words_of : M → List ℕ) (n : ℕ)
-    (parse : Result (List JobData) Fault) (answers : List JobData → List Row → Type 0)
-    (text : List Row → List ℕ) (old new : Option (List ℕ)) (before after : ℕ)
-    (answer : Result (RunEnd M) (AnswerError M)) (end : RunEnd M) (result : Result (Unit {0}) Fault)
-    → answer ≡ Ok end
-    → ReturnsRun words_of n parse answer
-    → ((jobs : List JobData) → AnswersJobs n jobs end.finished
-    → OnOk result ((rows : List Row) × answers jobs rows × Appends old new (text rows)))
-    → IfErr result (λ fault. (fault ≡ attribute what.Write before after)
-    ⊎ (fault ≡ record { row = 0; what = what.OutOfMemory }))
-    → IsAnswer parse answers text old new result
-output_answered words_of n parse answers text old new before after answer end (Ok done) ran is written failed =
-    let (jobs, good, run, all) = subst (ReturnsRun words_of n parse) ran is in
-    let (rows, are, out) = written jobs all in
-    record { things = jobs; rows = rows; good = good; answered = are; written = out }
-output_answered words_of n parse answers text old new before after answer end (Err fault) ran is written failed = λ refused. absurd (not_refused fault before after failed refused)

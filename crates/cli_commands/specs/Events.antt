@@ -1,5 +1,5 @@
 -- The events of the jobs of a file, and the rows that list them.
-use Rattle.std.specs.Prelude.{◌≡◌, ℕ, List, [], Option, Result, Ok, Err, map, IsPermutation}
+use Rattle.std.specs.Prelude.{◌≡◌, ℕ, Bool, true, List, [], Option, Result, Ok, Err, map, IsPermutation}
 use Rattle.std.specs.List.{All}
 use Rattle.std.specs.Io.KnownBytes.{Appends}
 use Rattle.job_types.specs.Job.{JobData}
@@ -15,7 +15,7 @@ use Rattle.jobs_csv.specs.Text.{file_text}
 use Rattle.cli_args.specs.declared.invocation.Invocation.{Invocation}
 use Rattle.cli_args.specs.declared.invocation.Invocation.TheVariants as invocation
 use Rattle.cli_commands.specs.JobIds.{with_ids}
-use Rattle.cli_commands.specs.declared.recorded_run.RecordedRun.{RecordedRun}
+use Rattle.cli_commands.specs.declared.file_run.FileRun.{FileRun}
 use Rattle.cli_commands.specs.declared.shop.AnswerError.{AnswerError}
 
 -- The file is good, and these are the events of its jobs. They are those of one right reply to each
@@ -49,7 +49,12 @@ WritesEvents invocation bytes old new =
 
 -- The run without its events, or the error.
 abbrev pub run_in : {M : Type 0}
-    → Result (RecordedRun M) (AnswerError M)
+    → Result (FileRun M) (AnswerError M)
     → Result (RunEnd M) (AnswerError M)
 run_in (Ok run) = Ok run.end
 run_in (Err error) = Err error
+
+-- If the events of a command on these bytes go to a file, they are written.
+abbrev pub IsSunk : Bool → (List JobEvent → Type 0) → Invocation → List ℕ → Type 0
+IsSunk has_file writes invocation bytes =
+    has_file ≡ true → (events : List JobEvent) × HasEvents invocation bytes events × writes events

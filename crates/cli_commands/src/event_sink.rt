@@ -8,7 +8,7 @@ use std::alloc::Global;
 use std::io::Write;
 
 /// Where the events of a command go, if they are written.
-pub(crate) trait EventSink {
+pub trait EventSink {
     ghost use Rattle.std.specs.Prelude.{ℕ, Bool, List};
     ghost use Rattle.job_events.specs.declared.event.JobEvent.{JobEvent as TheEvent};
 
@@ -41,8 +41,9 @@ pub(crate) trait EventSink {
 
 /// The sink of a command whose events are not written.
 #[derive(Drop)]
-pub(crate) struct NoEvents {
-    pub(crate) alloc: Global,
+pub struct NoEvents {
+    /// Where the memory of the command comes from.
+    pub alloc: Global,
 }
 
 impl EventSink for NoEvents {

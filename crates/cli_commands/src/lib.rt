@@ -6,6 +6,7 @@
 
 mod answering;
 mod event_sink;
+mod file_run;
 mod files;
 mod lanes;
 mod names;
@@ -14,8 +15,6 @@ mod place;
 mod play;
 pub mod program;
 mod progress;
-mod recorded_run;
-mod recording;
 mod refusal;
 mod replay;
 mod report;
@@ -25,12 +24,11 @@ mod stations;
 mod writing;
 
 pub use answering::{Task, answer};
-pub use event_sink::EventsFile;
+pub use event_sink::{EventSink, EventsFile, NoEvents};
+pub use file_run::{FileRun, run_file};
 pub use output::{Output, Replies, Report, Values};
 pub use place::place_on;
-pub use recorded_run::{RecordedRun, record_file};
-pub use recording::record;
 pub use replay::replay_on;
 pub use report::report_rows;
 pub use run::{report_on, run_on};
-pub use shop::{AnswerError, answer_file};
+pub use shop::AnswerError;

@@ -9,16 +9,15 @@ ghost use Rattle.jobs_csv.specs.declared.fault.Fault.{Fault as TheFault};
 ghost use Rattle.cli_args.specs.CommandLine.{IsWithinLimits, are_apart};
 ghost use Rattle.cli_commands.specs.Answer.{IsMetBeforeWriting};
 ghost use Rattle.cli_commands.specs.Inner.Ending.{EndsOn, EndsWith, IsShown};
-ghost use Rattle.cli_commands.specs.Inner.Recording.{IsSunk};
+ghost use Rattle.cli_commands.specs.Events.{IsSunk};
 ghost use Rattle.cli_commands.specs.Inner.Files.{IsOutcome, IsOutputAlone, IsWholeOutcome, StopsBeforeWriting, StopsForEvents};
 ghost use Rattle.cli_commands.specs.Program.{AsksForInput, AsksForOutput, AsksForProgress, EndsBy, IsFaultIn, IsRefused, LeavesFiles, ReportsFault, ReportsFileFault, ShowsProgress, events_of, exit_status, file_line, input_of, name_of, output_of};
 ghost use Rattle.atomic_file.specs.Store.{KeepsFiles, begun_by, held_by};
 ghost use Rattle.atomic_file.specs.declared.file_fault.FileFault.{FileFault as TheFileFault};
 
-use crate::answering::Task;
+use crate::answering::{Task, answer};
 use crate::event_sink::{EventSink, EventsFile, NoEvents};
 use crate::files::{CommandError, answered, begin_file, open_input, settle_events, settle_output};
-use crate::recording::answer_to;
 use crate::refusal::show_refusal;
 use atomic_file::{FileFault, FileSide, FileStore};
 use clap::error::ErrorKind;
@@ -186,24 +185,24 @@ where
     match (&request.files.input, &request.files.output) {
         (None, None) => {
             let (reader, writer) = (&mut console.reader, &mut console.writer);
-            answered(answer_to(rt, task, reader, writer, terminal, sink))
+            answered(answer(rt, task, reader, writer, terminal, sink))
         }
         (Some(input), None) => {
             let mut file = open_input(store, input)?;
             let writer = &mut console.writer;
-            answered(answer_to(rt, task, &mut file, writer, terminal, sink))
+            answered(answer(rt, task, &mut file, writer, terminal, sink))
         }
         (None, Some(output)) => {
             let mut temp_file = begin_file(store, FileSide::Output, output)?;
             let reader = &mut console.reader;
-            let answer = answer_to(rt, task, reader, &mut temp_file, terminal, sink);
-            settle_output(store, temp_file, output, answer)
+            let done = answer(rt, task, reader, &mut temp_file, terminal, sink);
+            settle_output(store, temp_file, output, done)
         }
         (Some(input), Some(output)) => {
             let mut file = open_input(store, input)?;
             let mut temp_file = begin_file(store, FileSide::Output, output)?;
-            let answer = answer_to(rt, task, &mut file, &mut temp_file, terminal, sink);
-            settle_output(store, temp_file, output, answer)
+            let done = answer(rt, task, &mut file, &mut temp_file, terminal, sink);
+            settle_output(store, temp_file, output, done)
         }
     }
 }

@@ -6,6 +6,7 @@ ghost use Rattle.cli_commands.specs.Answer.{IsMetBeforeWriting, IsRunFault};
 ghost use Rattle.cli_commands.specs.Program.{IsAnswerTo};
 
 use crate::answering::{Task, answer};
+use crate::event_sink::NoEvents;
 use cli_args::{Invocation, ShopOptions};
 use dispatcher::{Runner, ShopSizes};
 use jobs_csv::{Device, Fault};
@@ -82,7 +83,8 @@ where
         runner,
         is_last: false,
     };
-    answer(rt, alloc, task, reader, writer, &mut None::<NoTerminal>)
+    let (terminal, sink) = (&mut None::<NoTerminal>, &mut NoEvents { alloc });
+    answer(rt, task, reader, writer, terminal, sink)
 }
 
 /// Runs a file of jobs and writes totals: the command `report`, without a terminal. There is a row
@@ -124,5 +126,6 @@ where
         runner,
         is_last: false,
     };
-    answer(rt, alloc, task, reader, writer, &mut None::<NoTerminal>)
+    let (terminal, sink) = (&mut None::<NoTerminal>, &mut NoEvents { alloc });
+    answer(rt, task, reader, writer, terminal, sink)
 }

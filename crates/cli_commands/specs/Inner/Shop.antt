@@ -1,11 +1,9 @@
 -- What is returned for a dispatcher that has not run all jobs.
-use Rattle.std.specs.Prelude.{Option, Some, None, Result, Ok, Err}
+use Rattle.std.specs.Prelude.{Some, None}
 use Rattle.dispatcher_threads.specs.declared.answering.StopReason.{StopReason}
 use Rattle.dispatcher_threads.specs.declared.answering.StopReason.TheVariants as why
 use Rattle.dispatcher_threads.specs.declared.answering.RunError.{RunError}
 use Rattle.dispatcher_threads.specs.declared.answering.RunError.TheVariants as stopped
-use Rattle.dispatcher_threads.specs.declared.running.RunEnd.{RunEnd}
-use Rattle.jobs_csv.specs.declared.fault.Fault.{Fault}
 use Rattle.jobs_csv.specs.declared.fault.FaultKind.{FaultKind}
 use Rattle.jobs_csv.specs.declared.fault.FaultKind.TheVariants as what
 use Rattle.cli_commands.specs.declared.shop.AnswerError.{AnswerError}
@@ -21,8 +19,3 @@ error_of (stopped.Refused why jobs) =
     record { fault = record { row = 0; what = what.OutOfMemory }; end = None }
 error_of (stopped.Unfinished why end) =
     record { fault = record { row = 0; what = kind_of_reason why }; end = Some end }
-
--- The fault that was returned instead of a run, if there is one.
-abbrev pub fault_in : {M : Type 0} → Result (RunEnd M) (AnswerError M) → Option Fault
-fault_in (Ok end) = None
-fault_in (Err error) = Some error.fault

@@ -3,7 +3,7 @@
 use crate::tests::commands::{sizes_of, writes_all};
 use crate::tests::facts::expect_true;
 use cli_args::{Invocation, ShopOptions};
-use cli_commands::{Task, answer};
+use cli_commands::{NoEvents, Task, answer};
 use dispatcher::{Runner, ShopSizes};
 use job_types::{Job, JobId, Region, Reply};
 use jobs_csv::Counted;
@@ -128,13 +128,14 @@ fn three_jobs_of_a_shown_run_are_inside_at_once(rt: HostRuntime) {
         is_last: false,
     };
     let mut terminal = Some(Vec::new(rt.alloc()));
+    let mut sink = NoEvents { alloc: rt.alloc() };
     let answer = answer(
         &rt,
-        rt.alloc(),
         task,
         &mut reader,
         &mut writer,
         &mut terminal,
+        &mut sink,
     );
     let is_written = writer.get_ref().as_slice() == THREE_REPLIES.as_bytes();
     expect_true(

@@ -4,7 +4,7 @@ use crate::tests::commands::{long_file, sizes_of};
 use crate::tests::facts::expect_true;
 use crate::tests::failing_devices::FailsAt;
 use cli_args::{Invocation, ShopOptions};
-use cli_commands::{Task, answer};
+use cli_commands::{NoEvents, Task, answer};
 use dispatcher::Plain;
 use jobs_csv::Counted;
 use std::io::Write;
@@ -36,7 +36,8 @@ where
         runner: &Plain,
         is_last: true,
     };
-    let answer = answer(rt, rt.alloc(), task, &mut reader, &mut writer, terminal);
+    let mut sink = NoEvents { alloc: rt.alloc() };
+    let answer = answer(rt, task, &mut reader, &mut writer, terminal, &mut sink);
     expect_true(
         rt,
         (answer == Ok(())) & (writer.get_ref().as_slice() == wanted),

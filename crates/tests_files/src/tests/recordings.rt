@@ -7,10 +7,10 @@ use crate::tests::commands::sizes_of;
 use crate::tests::facts::{expect_all, expect_true};
 use crate::tests::failing_devices::FailsAt;
 use cli_args::{Invocation, ShopOptions};
-use cli_commands::{EventsFile, RecordedRun, Task, record, record_file};
+use cli_commands::{EventSink, EventsFile, FileRun, NoEvents, Task, answer, run_file};
 use dispatcher::Plain;
 use floor_tree::TreeFloor;
-use job_events::Step;
+use job_events::{JobEvent, Step};
 use jobs_csv::{Counted, Device, Fault, FaultKind};
 use line_ruled::RuledLine;
 use std::io::Write;
@@ -72,9 +72,9 @@ where
     let alloc = rt.alloc();
     let mut events = EventsFile { alloc, file };
     let terminal = &mut None::<Vec<u8>>;
-    let answer = record(rt, task, &mut reader, writer, terminal, &mut events);
+    let done = answer(rt, task, &mut reader, writer, terminal, &mut events);
     let EventsFile { alloc: _, file } = events;
-    (answer, file)
+    (done, file)
 }
 
 // Expects that a command on this input is done, and writes these rows and these events.
@@ -170,20 +170,36 @@ fn a_refused_file_writes_nothing(rt: HostRuntime) {
     );
 }
 
-#[test]
-fn a_recorded_run_has_its_events(rt: HostRuntime) {
-    let recorded = record_file::<HostRuntime, RuledLine, TreeFloor, Plain, _, Vec<u8>>(
-        &rt,
-        rt.alloc(),
+// Returns the events of the job's run, whose sink is this one.
+fn events_in<K: EventSink>(rt: &HostRuntime, sink: &K) -> Vec<JobEvent> {
+    let ran = run_file::<HostRuntime, RuledLine, TreeFloor, Plain, _, Vec<u8>, K>(
+        rt,
         options(),
         &Plain,
         &mut Counted::new(JOB),
         &mut None,
+        sink,
     );
-    let RecordedRun { end: _, events } = recorded.ok().expect(&rt, "the file is good");
+    let FileRun { end: _, events } = ran.ok().expect(rt, "the file is good");
+    events
+}
+
+#[test]
+fn a_run_whose_events_are_written_has_them(rt: HostRuntime) {
+    let (alloc, file) = (rt.alloc(), Counted::new(Vec::new(rt.alloc())));
+    let sink = EventsFile { alloc, file };
+    let events = events_in(&rt, &sink);
+    let EventsFile { alloc: _, file: _ } = sink;
     let is_a_pair = match events.as_slice() {
         [take, free] => take.step == Step::Take && free.step == Step::Free,
         _ => false,
     };
     expect_true(&rt, is_a_pair);
+}
+
+#[test]
+fn a_run_whose_events_are_not_written_has_none(rt: HostRuntime) {
+    let alloc = rt.alloc();
+    let events = events_in(&rt, &NoEvents { alloc });
+    expect_true(&rt, events.is_empty());
 }

@@ -1,21 +1,18 @@
-// Running the jobs of a file, and listing their events.
-ghost use Rattle.std.specs.Prelude.{◌≡◌, ◌⊎◌, ◌≤◌, ℕ, [], false, None, Ok, Some, All, IfErr, IfOk, IfSome, List, OnOk, Result, length};
-ghost use Rattle.cube_shape.specs.declared.limits.TheConstants.{MAX_LANES};
-ghost use Rattle.floors.specs.Floor.{IsWhollyFree};
+// Running the jobs of a file, and listing their events if they are asked for.
+ghost use Rattle.std.specs.Prelude.{◌≡◌, ◌⊎◌, false, true, None, Ok, Some, All, IfErr, IfOk, IfSome, List, Result};
 ghost use Rattle.job_events.specs.Events.{AreEvents};
 ghost use Rattle.job_types.specs.Job.{JobData};
-ghost use Rattle.jobs_csv.specs.Fault.{IsInputFault, attribute};
+ghost use Rattle.jobs_csv.specs.Fault.{IsInputFault};
 ghost use Rattle.jobs_csv.specs.Jobs.{parse_jobs};
 ghost use Rattle.jobs_csv.specs.Lanes.{AreLanes, ReturnsLanes};
 ghost use Rattle.jobs_csv.specs.declared.fault.Fault.{Fault as TheFault};
-ghost use Rattle.cli_args.specs.CommandLine.{AreShopSizes, IsWithinLimits};
-ghost use Rattle.cli_commands.specs.Answer.{IsAnswer, IsMetBeforeWriting, IsShopFault};
-ghost use Rattle.cli_commands.specs.Events.{HasEvents, run_in};
+ghost use Rattle.cli_args.specs.CommandLine.{AreShopSizes};
+ghost use Rattle.cli_commands.specs.Answer.{IsShopFault};
+ghost use Rattle.cli_commands.specs.Events.{run_in};
 ghost use Rattle.cli_commands.specs.FileRun.{HasSpentLane, IsShopRun, ReturnsRun};
-ghost use Rattle.cli_commands.specs.Inner.Recording.{fault_of_record};
-ghost use Rattle.cli_commands.specs.Program.{IsAnswerTo, IsFaultOf, ShowsProgress};
 ghost use Rattle.cli_commands.specs.Replies.{replies_in};
 
+use crate::event_sink::EventSink;
 use crate::progress::{RecordProgress, ReplyProgress, begin_progress, counts_of, end_progress};
 use crate::shop::{AnswerError, answer_lanes};
 use cli_args::ShopOptions;
@@ -32,24 +29,25 @@ use std::io::{Read, Write};
 use std::sync::Wait;
 use std::thread::Threads;
 
-/// The finished run of a file, and the events of its jobs.
+/// The finished run of a file, and the events of its jobs if they were asked for.
 #[derive(Drop)]
-pub struct RecordedRun<M> {
+pub struct FileRun<M> {
     /// The run.
     pub end: RunEnd<M>,
-    /// A take and a later free of the block of each job.
+    /// A take and a later free of the block of each job, or nothing.
     pub events: Vec<JobEvent>,
 }
 
-// Runs the jobs of these lanes as `answer_lanes` does, and lists their events. Reserves the memory
-// for the events before the first job runs.
-fn record_lanes<H, L, F, T>(
+// Runs the jobs of these lanes as `answer_lanes` does, and lists their events if there is a file for
+// them. Then it reserves the memory for the events before the first job runs.
+fn run_lanes<H, L, F, T>(
     rt: &H,
     alloc: Global,
     sizes: ShopSizes,
     runner: &T,
     lanes: Vec<VecDeque<Job>>,
-) -> Result<RecordedRun<F::Machine>, AnswerError<F::Machine>>
+    has_file: bool,
+) -> Result<FileRun<F::Machine>, AnswerError<F::Machine>>
 where
     H: Threads + Wait + Sync,
     L: JobLine + SharedLine,
@@ -59,13 +57,18 @@ where
         × All (λ job. job.machine ≡ sizes.dim) jobs }
     ensures answered { (parse : Result (List JobData) TheFault) → ReturnsLanes parse (Ok lanes) →
         ReturnsRun F.machine_words sizes.dim parse (run_in result) }
-    ensures events { IfOk result (λ run.
+    ensures events { has_file ≡ true → IfOk result (λ run.
         AreEvents (replies_in run.end.finished) run.events.items) }
     ensures run { IfOk result (λ run. IsShopRun L.JobLine F.Floor sizes run.end) }
     ensures failed { IfErr result (λ error. IsShopFault error.fault) }
     ensures spent { IfErr result (λ error.
         error.fault.what ≡ FaultKind.Spent → HasSpentLane error.end) }
 {
+    if !has_file {
+        let end = answer_lanes::<H, L, F, T>(rt, alloc, sizes, runner, lanes)?;
+        let events = Vec::new(alloc);
+        return Ok(FileRun { end, events });
+    }
     let fault = Fault::no_memory();
     let Ok(numbers) = EventNumbers::new(alloc, &lanes) else {
         return Err(AnswerError { fault, end: None });
@@ -77,34 +80,45 @@ where
         runner,
         numbers: &numbers,
     };
-    let end = match answer_lanes::<H, L, F, Numbered<T>>(rt, alloc, sizes, &runner, lanes) {
-        Ok(end) => end,
-        Err(error) => return Err(error),
-    };
+    let end = answer_lanes::<H, L, F, Numbered<T>>(rt, alloc, sizes, &runner, lanes)?;
     let Ok(events) = events_of(&numbers, room, &end.finished) else {
         let end = Some(end);
         return Err(AnswerError { fault, end });
     };
-    Ok(RecordedRun { end, events })
+    Ok(FileRun { end, events })
 }
 
-/// Reads a file of jobs and runs all of them, as [`answer_file`](crate::answer_file) does. Lists
-/// the events of the jobs: a take and a later free of the block of each.
+/// Reads a file of jobs and runs all of them on threads. The workers submit the jobs of each open
+/// lane to the queue `L`. They run each job by the runner, on a block of the allocator `F`.
 ///
-/// A free has a smaller number than each later take of one of its processors, so the events are in
-/// an order of time. No contract says so.
+/// All jobs are read before the first one runs. The open lanes are 0 to the largest one of a job,
+/// or lane 0 alone. Returns the finished run. It has one right reply to each job under its id, the
+/// end of each lane and of each worker, and the machine. The machine is wholly free and closed.
+///
+/// If the sink has a file, the events of the jobs are listed too: a take and a later free of the
+/// block of each. A free has a smaller number than each later take of one of its processors, so the
+/// events are in an order of time. No contract says so.
+///
+/// The terminal, if there is one, shows how many records are read and how many replies are done,
+/// unless the options are quiet. A thread of its own writes that line, and has wiped it when this
+/// function returns. If a write to the terminal still waits after a second, the waiting thread
+/// keeps the terminal.
 ///
 /// # Errors
 ///
-/// The errors are those of `answer_file`. If the memory for the events is refused, no job runs.
-pub fn record_file<H, L, F, T, R, P>(
+/// The fault is the first one of the file, and then nothing ran. It is `Read` only if the reader's
+/// count of failed calls rose in this call, or was `u64::MAX` before it. Then nothing ran either.
+/// It is `Spent` if a lane has made as many entries as a lane may. It is `OutOfMemory` if memory
+/// ran out; no job runs if there is none for the events. The error has the run as far as it got, if
+/// there was one.
+pub fn run_file<H, L, F, T, R, P, K>(
     rt: &H,
-    alloc: Global,
     options: ShopOptions,
     runner: &T,
     reader: &mut R,
     terminal: &mut Option<P>,
-) -> Result<RecordedRun<F::Machine>, AnswerError<F::Machine>>
+    sink: &K,
+) -> Result<FileRun<F::Machine>, AnswerError<F::Machine>>
 where
     H: Threads + Wait + Clone + Send + Sync + 'static,
     L: JobLine + SharedLine,
@@ -112,10 +126,11 @@ where
     T: Runner + Sync,
     R: Read + Device,
     P: Write + Send + Drop + 'static,
+    K: EventSink,
     requires sizes { AreShopSizes options.sizes }
     ensures answered { IfSome (R.remaining reader.old) (λ bytes. ReturnsRun F.machine_words
         options.sizes.dim (parse_jobs options.sizes.dim bytes) (run_in result)) }
-    ensures events { IfOk result (λ run.
+    ensures events { K.has_file ≡ true → IfOk result (λ run.
         AreEvents (replies_in run.end.finished) run.events.items) }
     ensures run { IfOk result (λ run. IsShopRun L.JobLine F.Floor options.sizes run.end) }
     ensures failed { IfErr result (λ error.
@@ -127,18 +142,20 @@ where
     ensures shown { (terminal.new ≡ terminal.old) ⊎ (options.is_quiet ≡ false) }
 {
     let ShopOptions { sizes, is_quiet } = options;
+    let alloc = sink.alloc();
     let progress = begin_progress(rt, alloc, is_quiet, terminal);
     let observer = RecordProgress::new(counts_of(&progress));
-    let recorded = match jobs_csv::read_lanes_with(alloc, sizes.dim, observer, reader) {
+    let ran = match jobs_csv::read_lanes_with(alloc, sizes.dim, observer, reader) {
         Ok((lanes, _observer)) => {
             let runner = ReplyProgress {
                 runner,
                 counts: counts_of(&progress),
             };
-            record_lanes::<H, L, F, ReplyProgress<T>>(rt, alloc, sizes, &runner, lanes)
+            let has_file = sink.has_file();
+            run_lanes::<H, L, F, ReplyProgress<T>>(rt, alloc, sizes, &runner, lanes, has_file)
         }
         Err(fault) => Err(AnswerError { fault, end: None }),
     };
     end_progress(rt, progress, terminal);
-    recorded
+    ran
 }

@@ -1,5 +1,5 @@
 use Rattle.cli_commands.proofs.RecordLemmas.{no_run, run_without_events}
-use Rattle.cli_commands.proofs.recorded_run.record_lanes.Goals as goal
+use Rattle.cli_commands.proofs.file_run.run_lanes.Goals as goal
 
 pub returns-in_default-clause-answered : goal.returns-in_default-clause-answered
 returns-in_default-clause-answered g c parse are = no_run g.F.Floor.machine_words c.args.sizes.dim parse c.no_memory-fault.result c.no_memory-fault.ensures
@@ -7,9 +7,6 @@ returns-in_default-clause-answered g c parse are = no_run g.F.Floor.machine_word
 pub returns-in_default-room_for-clause-answered : goal.returns-in_default-room_for-clause-answered
 returns-in_default-room_for-clause-answered g c parse are = no_run g.F.Floor.machine_words c.args.sizes.dim parse c.no_memory-fault.result c.no_memory-fault.ensures
 
-pub returns-in-Err-clause-answered : goal.returns-in-Err-clause-answered
-returns-in-Err-clause-answered g c parse are = c.in-Err.ensures.answered parse are
-
 pub returns-in_default-events_of-clause-answered : goal.returns-in_default-events_of-clause-answered
-returns-in_default-events_of-clause-answered g c parse are = run_without_events g.F.Floor.machine_words c.args.sizes.dim parse c.no_memory-fault.result c.in-Ok-answer_lanes.end
-    c.no_memory-fault.ensures (c.in-Ok-answer_lanes.ensures.answered parse are)
+returns-in_default-events_of-clause-answered g c parse are = run_without_events g.F.Floor.machine_words c.args.sizes.dim parse c.no_memory-fault.result c.in_ok-end-2.end
+    c.no_memory-fault.ensures (c.in_ok-end-2.ensures.answered parse are)
