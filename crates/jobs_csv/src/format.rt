@@ -127,32 +127,8 @@ fn read_rows<F: Format, G: RowSink<F::Row>, R: Read>(
 
 /// Reads a whole file and pushes its rows into `rows`, which must be empty.
 ///
-/// A refusal is the first fault of the file. Any other fault is `Read` or `OutOfMemory`.
-pub(crate) fn read_records<F: Format, G: RowSink<F::Row>, R: Read + Drop>(
-    alloc: Global,
-    format: &F,
-    rows: G,
-    text: R,
-) -> Result<G, Fault>
-    requires { G.contents rows [] }
-    ensures parse { IfSome (R.remaining text) (λ bytes.
-        ReturnsRows G.contents (parse_file F.header_of (F.row_of format.now) bytes) result) }
-    ensures good { IfOk result (λ gathered. (list : List F.Row)
-        × G.contents gathered list
-        × All (λ row. F.is_row format.now row) list) }
-{
-    let mut reader = input::open_reader(alloc, text);
-    let mut record = ByteRecord::new(alloc);
-    if let Err(fault) = read_header(format, &mut reader, &mut record) {
-        return Err(fault);
-    }
-    read_rows(alloc, format, rows, &mut reader, &mut record)
-}
-
-/// Reads a whole file from a borrowed reader, and pushes its rows into `rows`, which must be empty.
-///
-/// A failure is `Read` exactly if the reader's count of failed calls rose in this call, or was
-/// `u64::MAX` before it. Otherwise memory ran out.
+/// A refusal is the first fault of the file. A failure is `Read` exactly if the reader's count of
+/// failed calls rose in this call, or was `u64::MAX` before it. Otherwise memory ran out.
 pub(crate) fn read_file<F: Format, G: RowSink<F::Row>, R: Read + Device>(
     alloc: Global,
     format: &F,
@@ -168,7 +144,14 @@ pub(crate) fn read_file<F: Format, G: RowSink<F::Row>, R: Read + Device>(
     ensures failed { IfErr result (IsInputFault (R.failures reader.old) (R.failures reader.new)) }
 {
     let failures_before = reader.failures();
-    let fault = match read_records(alloc, format, rows, &mut *reader) {
+    let mut records = input::open_reader(alloc, &mut *reader);
+    let mut record = ByteRecord::new(alloc);
+    let gathered = match read_header(format, &mut records, &mut record) {
+        Ok(()) => read_rows(alloc, format, rows, &mut records, &mut record),
+        Err(fault) => Err(fault),
+    };
+    drop(records);
+    let fault = match gathered {
         Ok(rows) => return Ok(rows),
         Err(fault) => fault,
     };
