@@ -171,8 +171,12 @@ fn a_refused_file_writes_nothing(rt: HostRuntime) {
 }
 
 // Returns the events of the job's run, whose sink is this one.
-fn events_in<K: EventSink>(rt: &HostRuntime, sink: &K) -> Vec<JobEvent> {
-    let ran = run_file::<HostRuntime, RuledLine, TreeFloor, Plain, _, Vec<u8>, K>(
+fn events_in<H, K>(rt: &H, sink: &K) -> Vec<JobEvent>
+where
+    H: AllocGlobal + Abort + Threads + Wait + Clone + Send + Sync + 'static,
+    K: EventSink,
+{
+    let ran = run_file::<H, RuledLine, TreeFloor, Plain, _, Vec<u8>, K>(
         rt,
         options(),
         &Plain,
