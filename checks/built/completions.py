@@ -222,7 +222,13 @@ def offers(shell, line, wanted):
     must(got == wanted.split(), f"{shell} offers {got} and not {wanted.split()}")
 
 
+def is_hyphen_read():
+    """Sees that an option is read whose name has a hyphen."""
+    must([it.name for it in options("\nOptions:\n      --a-b <N>\n          Does it\n")] == ["a-b"], "it is not read")
+
+
 def rows(shown):
+    yield Row("a hyphen in the name of an option", is_hyphen_read, ())
     for file, (make, shell) in FILES.items():
         yield Row(f"{file} is made of the help", is_made, (file, make(shown)))
         yield Row(f"{shell} reads {file}", is_read, (file, shell))

@@ -7,7 +7,8 @@ from checks.lib.rows import must, output
 # A command in the list of a help: two spaces, its name and what it does.
 COMMAND = re.compile(r"^  (\w+) +(\S.*)$", re.M)
 # An option in a help: its letter, its name, its value, and what it does on this line or on the next one.
-OPTION = re.compile(r"^ {2,6}(?:-(\w), )?--(\w+)(?: <(\w+)>)?\s+(\S.*)$", re.M)
+OPTION = re.compile(r"^ {2,6}(?:-(\w), )?--([\w-]+)(?: <(\w+)>)?\s+(\S.*)$", re.M)
+BEGINS_OPTION = re.compile(r"^ {2,6}(?:-\w, )?--", re.M)
 
 
 class Option(NamedTuple):
@@ -38,8 +39,11 @@ def listed(text):
 
 
 def options(text) -> List[Option]:
-    """Returns the options that a help lists."""
-    return [Option(*found) for found in OPTION.findall(text.partition("\nOptions:\n")[2])]
+    """Returns the options that a help lists, each of which is read."""
+    lines = text.partition("\nOptions:\n")[2]
+    found = [Option(*it) for it in OPTION.findall(lines)]
+    must(len(found) == len(BEGINS_OPTION.findall(lines)), "a help has an option that is not read")
+    return found
 
 
 def helps(built):

@@ -38,8 +38,8 @@ pub struct FileRun<M> {
     pub events: Vec<JobEvent>,
 }
 
-// Runs the jobs of these lanes as `answer_lanes` does, and lists their events if there is a file for
-// them. Then it reserves the memory for the events before the first job runs.
+// Runs the jobs of these lanes as `answer_lanes` does, and lists their events if there is a file
+// for them. Then it reserves the memory for the events before the first job runs.
 fn run_lanes<H, L, F, T>(
     rt: &H,
     alloc: Global,
